@@ -1,0 +1,57 @@
+-- Laws of rows, their greatest common divisors, kept forms and combinations.
+use Rattle.std.specs.Prelude.{◌≡◌, ℕ, ◌<◌, ◌≤◌, ◌%◌, List, length, ℤ, pos, ◌≤ℤ◌, ◌<ℤ◌, unsigned_abs}
+use Rattle.std.specs.List.{All, Any}
+use Rattle.row_definitions.specs.Rows.{entry, row_divisor, primitive_row, scaled, IsPositiveMultiple, IsProportional}
+use Rattle.row_definitions.specs.Combination.{plain_combination, combined}
+
+-- a number divides each entry of a row
+abbrev pub IsCommonDivisor : ℕ → List ℤ → Type 0
+IsCommonDivisor divisor row = All (λ x. unsigned_abs x % divisor ≡ 0) row
+
+-- some entry of a row is not 0
+abbrev pub IsNonZeroRow : List ℤ → Type 0
+IsNonZeroRow row = (column : ℕ) × (0 < unsigned_abs (entry row column))
+
+-- a row's divisor divides each of its entries
+abbrev pub DivisorDivides : Type 0
+DivisorDivides = (row : List ℤ) → IsCommonDivisor (row_divisor row) row
+
+-- each common divisor of a row's entries divides the row's divisor
+abbrev pub DivisorIsGreatest : Type 0
+DivisorIsGreatest = (row : List ℤ) (divisor : ℕ) → IsCommonDivisor divisor row → row_divisor row % divisor ≡ 0
+
+-- a row that is not all zeros is a positive multiple of its primitive, by its divisor
+abbrev pub RowIsMultipleOfPrimitive : Type 0
+RowIsMultipleOfPrimitive = (row : List ℤ) → IsNonZeroRow row → (0 < row_divisor row) × (row ≡ scaled (row_divisor row) (primitive_row row))
+
+-- a row without an entry other than 0 is its own primitive
+abbrev pub ZeroRowStays : Type 0
+ZeroRowStays = (row : List ℤ) → ¬ IsNonZeroRow row → primitive_row row ≡ row
+
+-- each row is a positive multiple of its primitive, so signs and ratios are the same
+abbrev pub PrimitiveKeepsDirection : Type 0
+PrimitiveKeepsDirection = (row : List ℤ) → IsPositiveMultiple row (primitive_row row)
+
+-- a primitive row is its own primitive
+abbrev pub PrimitiveStays : Type 0
+PrimitiveStays = (row : List ℤ) → primitive_row (primitive_row row) ≡ primitive_row row
+
+-- a row with an entry 1 or -1 is its own primitive
+abbrev pub UnitEntryIsPrimitive : Type 0
+UnitEntryIsPrimitive = (row : List ℤ) (column : ℕ) → unsigned_abs (entry row column) ≡ 1 → primitive_row row ≡ row
+
+-- the primitive of a positive multiple of a row is the row's primitive
+abbrev pub PrimitiveOfMultiple : Type 0
+PrimitiveOfMultiple = (row : List ℤ) (factor : ℕ) → 0 < factor → primitive_row (scaled factor row) ≡ primitive_row row
+
+-- rows that are the same up to a positive factor have one primitive
+abbrev pub PrimitiveOfProportional : Type 0
+PrimitiveOfProportional = (row other : List ℤ) → IsProportional row other → primitive_row row ≡ primitive_row other
+
+-- dividing the two entries of the column first changes nothing: both give the kept form of the plain combination
+abbrev pub CombinedIsPlain : Type 0
+CombinedIsPlain = (target pivot : List ℤ) (at : ℕ) → pos 0 <ℤ entry pivot at → combined target pivot at ≡ primitive_row (plain_combination target pivot at)
+
+-- to combine kept forms gives the kept form of the plain rows' plain combination
+abbrev pub CombinedOfKeptForms : Type 0
+CombinedOfKeptForms = (target pivot : List ℤ) (at : ℕ) → pos 0 <ℤ entry pivot at → combined (primitive_row target) (primitive_row pivot) at ≡ primitive_row (plain_combination target pivot at)
