@@ -1,0 +1,68 @@
+ghost use Rattle.std.specs.Prelude.{◌≡◌, ◌≢◌, ℕ, ◌+◌, ◌-◌, ◌*◌, ◌<◌, ◌≤◌, ◌^◌, [], ◌∷◌, ◌++◌, length, replicate, IfOk, pos, ◌<ℤ◌, unsigned_abs, IfSome, IfNone};
+ghost use Rattle.std.specs.List.{All};
+ghost use Rattle.row_definitions.specs.Rows.{entry};
+ghost use Rattle.row_definitions.specs.Combination.{FitsEntry, combined, PassesNowhere, PassesFirst};
+ghost use Rattle.pivot_definitions.specs.Programs.{unit_row, coefficient_row};
+ghost use Rattle.pivot_definitions.specs.Tableaus.{built_row, built_objective};
+
+use crate::program::Program;
+use scan_types::WantOfMemory;
+use std::alloc::{AllocError, Global};
+use std::marker::Model;
+
+// One row of a tableau. Only this module knows where a row's numbers are.
+#[derive(Debug, Drop)]
+pub(crate) struct Row {
+    entries: Vec<i128>,
+}
+
+impl Model for Row {
+    ghost use Rattle.std.specs.Prelude.{List, ℤ};
+
+    ghost Value = { List ℤ };
+
+    ghost view = { λ r. r.entries.items };
+}
+
+impl Row {
+    pub(crate) fn constraint(alloc: Global, program: &Program, row: usize) -> Result<Row, AllocError>
+        requires { row < program.now.rows }
+        ensures { IfOk result (λ r. r ≡ built_row program.now row) }
+    {
+        let columns = program.columns() as usize;
+        let rows = program.rows() as usize;
+        let start = row * columns;
+        let mut entries = Vec::with_capacity(alloc, columns + rows + 1)?;
+        entries.extend_from_slice(&program.coefs()[start..start + columns])?;
+        push_zeros(&mut entries, row)?;
+        entries.push(1)?;
+        push_zeros(&mut entries, rows - 1 - row)?;
+        entries.push(program.right()[row])?;
+        Ok(Row { entries })
+    }
+
+    pub(crate) fn objective(alloc: Global, program: &Program) -> Result<Row, AllocError>
+        ensures { IfOk result (λ r. r ≡ built_objective program.now) }
+    {
+        let zeros = program.columns() as usize + program.rows() as usize;
+        let mut entries = Vec::with_capacity(alloc, zeros + 1)?;
+        entries.push(1)?;
+        push_zeros(&mut entries, zeros)?;
+        Ok(Row { entries })
+    }
+
+    pub(crate) fn entries(&self) -> &[i128]
+        ensures { result.now ≡ self.now }
+    {
+        self.entries.as_slice()
+    }
+}
+
+fn push_zeros(entries: &mut Vec<i128>, count: usize) -> Result<(), AllocError>
+    ensures { IfOk result (λ _. entries.new.items ≡ entries.old.items ++ replicate count (pos 0)) }
+{
+    for _ in 0..count {
+        entries.push(0)?;
+    }
+    Ok(())
+}

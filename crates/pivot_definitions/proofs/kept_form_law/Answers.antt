@@ -1,0 +1,5 @@
+use Rattle.pivot_definitions.proofs.KeptForms.{kept_pivot_lem}
+use Rattle.pivot_definitions.proofs.kept_form_law.Goals as goal
+
+pub returns : goal.returns
+returns c = record { pivot = kept_pivot_lem c.combination_law.ensures.kept_forms }

@@ -1,0 +1,4 @@
+pub mod Programs
+pub mod Tableaus
+pub mod Runs
+pub mod Laws
