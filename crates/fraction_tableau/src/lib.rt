@@ -14,7 +14,7 @@ mod row;
 mod tableau;
 
 pub use program::{MOST_COLUMNS, MOST_ROWS, Program};
-pub use tableau::{Passed2, Tableau};
+pub use tableau::Tableau;
 
 #[cfg(test)]
 mod tests;

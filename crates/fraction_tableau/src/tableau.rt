@@ -1,21 +1,13 @@
-ghost use Rattle.std.specs.Prelude.{◌≡◌, ℕ, ◌+◌, ◌<◌, ◌≤◌, ◌^◌, length, map, IfOk, pos, ◌<ℤ◌, unsigned_abs, slice_index_or, slice_index, position, MatchOption, neg_ℤ};
-ghost use Rattle.std.specs.List.{All, range_with_len};
-ghost use Rattle.row_definitions.specs.Rows.{entry};
+ghost use Rattle.std.specs.Prelude.{◌≡◌, ℕ, ◌+◌, ◌<◌, ◌≤◌, ◌^◌, length, ◌==◌, IfOk, IfSome, pos, unsigned_abs, slice_index, position};
+ghost use Rattle.std.specs.List.{All};
 ghost use Rattle.row_definitions.specs.Combination.{FitsEntry};
-ghost use Rattle.pivot_definitions.specs.Tableaus.{SimplexTableau, IsTableau, column_count, row_at, entry_at, right_side, objective, basic_column, multiplier_of, IsValueOf, built, built_row};
+ghost use Rattle.pivot_definitions.specs.Tableaus.{IsTableau, HasFittingEntries, column_count, row_at, entry_at, right_side, objective, basic_column, multiplier_of, IsValueOf, built};
 
 use crate::program::Program;
 use crate::row::Row;
 use scan_types::WantOfMemory;
-use std::alloc::{AllocError, Global};
+use std::alloc::Global;
 use std::marker::Model;
-
-/// A pivot passed 128 bits: in this row, the objective row being the last, and in this column.
-#[derive(Clone, Copy, Debug, PartialEq, Eq)]
-pub struct Passed2 {
-    pub row: u32,
-    pub column: u32,
-}
 
 /// A simplex tableau: a row for each row of the program, and the objective row, over the program's columns, a slack
 /// column for each row, and the right side. Each row is divided by the greatest common divisor of its entries.
@@ -28,15 +20,17 @@ pub struct Tableau {
 
 impl Model for Tableau {
     ghost use Rattle.std.specs.Prelude.{◌≤◌, length};
-    ghost use Rattle.pivot_definitions.specs.Tableaus.{SimplexTableau, IsTableau};
+    ghost use Rattle.pivot_definitions.specs.Tableaus.{SimplexTableau, IsTableau, HasFittingEntries};
 
     ghost Value = { SimplexTableau };
 
     ghost view = { λ t. record { columns = t.columns; rows = t.rows.items; basis = t.basis.items } };
+
+    ghost invariant = { λ t. (t.columns ≤ 2048) × (length t.basis.items ≤ 2048) × IsTableau (record { columns = t.columns; rows = t.rows.items; basis = t.basis.items }) × HasFittingEntries (record { columns = t.columns; rows = t.rows.items; basis = t.basis.items }) };
 }
 
 impl Tableau {
-    /// The tableau of a program as built: the slack columns are basic.
+    /// The tableau of a program as built: the slack columns are basic. Takes memory for a number a place.
     pub fn build(alloc: Global, program: &Program) -> Result<Tableau, WantOfMemory>
         ensures { IfOk result (λ tableau. tableau ≡ built program.now) }
     {
@@ -56,10 +50,90 @@ impl Tableau {
         })
     }
 
-    /// How many columns the program has.
+    /// How many columns the program has: from 1 to 2,048.
     pub fn columns(&self) -> u32
-        ensures { result ≡ self.now.columns }
+        ensures value { result ≡ self.now.columns }
+        ensures few { result ≤ 2048 }
     {
         self.columns
+    }
+
+    /// How many rows the program has, which is how many constraint rows there are: from 1 to 2,048.
+    pub fn rows(&self) -> u32
+        ensures value { result ≡ length self.now.basis }
+        ensures few { result ≤ 2048 }
+        ensures tableau { IsTableau self.now }
+        ensures fits { HasFittingEntries self.now }
+    {
+        self.basis.len() as u32
+    }
+
+    /// The column that is basic in a row of the program.
+    pub fn basic(&self, row: u32) -> u32
+        requires { row < length self.now.basis }
+        ensures { result ≡ basic_column self.now row }
+    {
+        self.basis[row as usize]
+    }
+
+    /// The entry of a row in a column; the objective row is the last, and the right side the last column.
+    pub fn entry(&self, row: u32, column: u32) -> i128
+        requires row { row < length self.now.rows }
+        requires column { column < column_count self.now + 1 }
+        ensures value { result ≡ entry_at self.now row column }
+        ensures fits { FitsEntry result }
+    {
+        self.rows[row as usize].entries()[column as usize]
+    }
+
+    /// The right side of a row of the program.
+    pub fn right_side(&self, row: u32) -> i128
+        requires { row < length self.now.basis }
+        ensures value { result ≡ right_side self.now row }
+        ensures fits { FitsEntry result }
+    {
+        self.entry(row, self.columns + self.rows())
+    }
+
+    /// The entry of the objective row in a column.
+    pub fn objective(&self, column: u32) -> i128
+        requires { column < column_count self.now + 1 }
+        ensures value { result ≡ objective self.now column }
+        ensures fits { FitsEntry result }
+    {
+        self.entry(self.rows(), column)
+    }
+
+    /// The value of a column in the basic solution as a fraction: the right side and the entry of the row in which the
+    /// column is basic, or 0 and 1 where it is basic in none.
+    pub fn value(&self, column: u32) -> (i128, i128)
+        requires { column < column_count self.now }
+        ensures { IsValueOf self.now column result }
+    {
+        match self.row_of(column) {
+            Some(row) => (self.right_side(row), self.entry(row, column)),
+            None => (0, 1),
+        }
+    }
+
+    // The row in which a column is basic.
+    fn row_of(&self, column: u32) -> Option<u32>
+        ensures value { result ≡ position (λ basic. basic == column) self.now.basis }
+        ensures within { IfSome result (λ row. row < length self.now.basis) }
+    {
+        for row in 0..self.rows() {
+            if self.basic(row) == column {
+                return Some(row);
+            }
+        }
+        None
+    }
+
+    /// The multiplier of a row of the program: the negative of the objective row's entry in the row's slack column.
+    pub fn multiplier(&self, row: u32) -> i128
+        requires { row < length self.now.basis }
+        ensures { result ≡ multiplier_of self.now row }
+    {
+        -self.objective(self.columns + row)
     }
 }

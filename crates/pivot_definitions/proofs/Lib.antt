@@ -1,1 +1,2 @@
 pub mod KeptForms
+pub mod Built

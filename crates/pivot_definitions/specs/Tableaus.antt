@@ -49,6 +49,10 @@ pub record IsTableau (tableau : SimplexTableau) : Type 0 where
   pub widths : All (λ row. length row ≡ column_count tableau + 1) tableau.rows
   pub basic_columns : All (λ column. column < column_count tableau) tableau.basis
 
+-- each entry is a number that an entry may be
+abbrev pub HasFittingEntries : SimplexTableau → Type 0
+HasFittingEntries tableau = All (λ row. All FitsEntry row) tableau.rows
+
 -- constraint row `row` as built: the coefficients, 1 in the row's slack column and 0 in the others, and the right side
 abbrev pub built_row : LinearProgram → ℕ → List ℤ
 built_row program row = coefficient_row program row ++ unit_row program.rows row ++ entry program.right_sides row ∷ []

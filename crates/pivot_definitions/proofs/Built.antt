@@ -1,0 +1,58 @@
+-- The tableau of a program as built is a tableau, and its entries fit where the program's numbers do.
+use Rattle.std.proofs.Common.{◌≡◌, ℕ, zero, suc, ◌+◌, ◌-◌, ◌*◌, ◌<◌, ◌≤◌, List, [], ◌∷◌, ◌++◌, map, length, get_or, set, take, drop, replicate, refl, sym, ap, ap₂, ◌∙◌, subst, arith, lit<, mul-le-mul_right}
+use Rattle.std.specs.List.{All, range_with_len}
+use Rattle.std.proofs.lemmas.List.{length-append, length-map, length-replicate, length-take-le, length-drop}
+use Rattle.std.proofs.lemmas.List.Elements.{All-append, All-cons, All-nil, All-map, All-replicate, All-take, All-drop, All-get_or, All-from_get_or}
+use Rattle.std.proofs.lemmas.List.FromFn.{length-map-range_with_len, get_or-map-range_with_len}
+use lib.IntN.{ℤ, pos}
+use Rattle.row_definitions.specs.Rows.{entry}
+use Rattle.row_definitions.specs.Combination.{FitsEntry}
+use Rattle.pivot_definitions.specs.Programs.{LinearProgram, IsProgram, FitsEntries, coefficient_row, unit_row}
+use Rattle.pivot_definitions.specs.Tableaus.{SimplexTableau, IsTableau, HasFittingEntries, built, built_row, built_objective, column_count}
+
+pub length-range : (a n : ℕ) → length (range_with_len a n) ≡ n
+length-range a zero = refl
+length-range a (suc n) = ap suc (length-range (a + 1) n)
+
+-- what holds of each number of a range
+pub All-range : (P : ℕ → Type 0) (a n : ℕ) → ((k : ℕ) → a ≤ k → k < a + n → P k) → All P (range_with_len a n)
+All-range P a zero each = All-nil P
+All-range P a (suc n) each = All-cons P a (range_with_len (a + 1) n) (each a (omega arith) (omega arith)) (All-range P (a + 1) n (λ k low high. each k (omega arith) (omega arith)))
+
+pub length-unit : (width column : ℕ) → column < width → length (unit_row width column) ≡ width
+length-unit width column within = omega (arith, length-append (replicate column (pos 0)) (pos 1 ∷ replicate (width - 1 - column) (pos 0)), length-replicate column (pos 0), length-replicate (width - 1 - column) (pos 0))
+
+-- the coefficients of each row
+pub length-coefficients : (program : LinearProgram) → IsProgram program → (row : ℕ) → row < program.rows → length (coefficient_row program row) ≡ program.columns
+length-coefficients program is row within =
+    let most : suc row * program.columns ≤ program.rows * program.columns = mul-le-mul_right program.columns within in
+    length-take-le program.columns (drop (row * program.columns) program.coefficients) (omega (arith, most, length-drop (row * program.columns) program.coefficients, is.every_coefficient))
+
+pub length-built_row : (program : LinearProgram) → IsProgram program → (row : ℕ) → row < program.rows → length (built_row program row) ≡ program.columns + program.rows + 1
+length-built_row program is row within =
+    omega (arith, length-append (coefficient_row program row ++ unit_row program.rows row) (entry program.right_sides row ∷ []), length-append (coefficient_row program row) (unit_row program.rows row), length-coefficients program is row within, length-unit program.rows row within)
+
+pub length-built_objective : (program : LinearProgram) → length (built_objective program) ≡ program.columns + program.rows + 1
+length-built_objective program = omega (arith, length-replicate (program.columns + program.rows) (pos 0))
+
+pub built-IsTableau : (program : LinearProgram) → IsProgram program → IsTableau (built program)
+built-IsTableau program is =
+    let count : length (range_with_len program.columns program.rows) ≡ program.rows = length-range program.columns program.rows in
+    record {
+      row_count = omega (arith, count, length-append (map (built_row program) (range_with_len 0 program.rows)) (built_objective program ∷ []), length-map-range_with_len (built_row program) 0 program.rows);
+      widths = All-append (λ row. length row ≡ column_count (built program) + 1) (map (built_row program) (range_with_len 0 program.rows)) (built_objective program ∷ [])
+        (All-map (λ row. length row ≡ column_count (built program) + 1) (built_row program) (range_with_len 0 program.rows) (All-range (λ k. length (built_row program k) ≡ column_count (built program) + 1) 0 program.rows (λ k low high. omega (arith, count, length-built_row program is k (omega arith)))))
+        (All-cons (λ row. length row ≡ column_count (built program) + 1) (built_objective program) [] (omega (arith, count, length-built_objective program)) (All-nil _));
+      basic_columns = All-range (λ column. column < column_count (built program)) program.columns program.rows (λ k low high. omega (arith, count));
+    }
+
+fits_unit : (width column : ℕ) → All FitsEntry (unit_row width column)
+fits_unit width column = All-append FitsEntry (replicate column (pos 0)) (pos 1 ∷ replicate (width - 1 - column) (pos 0)) (All-replicate FitsEntry column (pos 0) (lit< tt)) (All-cons FitsEntry (pos 1) (replicate (width - 1 - column) (pos 0)) (lit< tt) (All-replicate FitsEntry (width - 1 - column) (pos 0) (lit< tt)))
+
+pub built-HasFittingEntries : (program : LinearProgram) → IsProgram program → FitsEntries program → HasFittingEntries (built program)
+built-HasFittingEntries program is fits = All-append (All FitsEntry) (map (built_row program) (range_with_len 0 program.rows)) (built_objective program ∷ [])
+    (All-map (All FitsEntry) (built_row program) (range_with_len 0 program.rows) (All-range (λ k. All FitsEntry (built_row program k)) 0 program.rows
+      (λ k low high. All-append FitsEntry (coefficient_row program k ++ unit_row program.rows k) (entry program.right_sides k ∷ [])
+        (All-append FitsEntry (coefficient_row program k) (unit_row program.rows k) (All-take FitsEntry program.columns (drop (k * program.columns) program.coefficients) (All-drop FitsEntry (k * program.columns) program.coefficients fits.coefficients)) (fits_unit program.rows k))
+        (All-cons FitsEntry (entry program.right_sides k) [] (All-get_or FitsEntry program.right_sides k (pos 0) (omega (arith, is.every_right_side)) fits.right_sides) (All-nil FitsEntry)))))
+    (All-cons (All FitsEntry) (built_objective program) [] (All-cons FitsEntry (pos 1) (replicate (program.columns + program.rows) (pos 0)) (lit< tt) (All-replicate FitsEntry (program.columns + program.rows) (pos 0) (lit< tt))) (All-nil _))
