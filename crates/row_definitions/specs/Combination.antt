@@ -1,5 +1,5 @@
 -- The combination of two rows that a pivot makes, and where it passes 128 bits.
-use Rattle.std.specs.Prelude.{◌≡◌, ℕ, ◌<◌, ◌^◌, List, [], ◌∷◌, length, ℤ, ◌-ℤ◌, ◌*ℤ◌, unsigned_abs}
+use Rattle.std.specs.Prelude.{ℕ, ◌<◌, ◌^◌, List, [], ◌∷◌, length, ℤ, ◌-ℤ◌, ◌*ℤ◌, unsigned_abs}
 use Rattle.row_definitions.specs.Rows.{entry, row_divisor, divided, primitive_row}
 
 -- `a * target - b * pivot`, column by column
