@@ -15,8 +15,8 @@ pub fn divisor_law()
     ensures greatest { DivisorIsGreatest }
 {}
 
-/// A row is a positive multiple of its primitive, so they have the same signs; rows that are the same up to a positive factor have one primitive,
-/// and a primitive row is its own.
+/// A row is a positive multiple of its primitive, so they have the same signs; rows that are the same up to a positive
+/// factor have one primitive, and a primitive row is its own.
 pub fn primitive_law()
     ensures by_the_divisor { RowIsMultipleOfPrimitive }
     ensures zeros { ZeroRowStays }
