@@ -1,8 +1,8 @@
 // The combination of two rows that makes the first 0 in a column.
-ghost use Rattle.std.specs.Prelude.{◌≡◌, ℕ, ◌<◌, ◌^◌, length, pos, ◌<ℤ◌, ◌-ℤ◌, ◌*ℤ◌, unsigned_abs, SomeIff, MatchOption, OnOk, IfErr, OnErr};
+ghost use Rattle.std.specs.Prelude.{◌≡◌, ◌<◌, ◌^◌, ◌∷◌, [], length, pos, ◌<ℤ◌, ◌-ℤ◌, ◌*ℤ◌, SomeIff, IfSome, IfNone, OnOk, IfErr, OnErr};
 ghost use Rattle.std.specs.List.{All};
 ghost use Rattle.row_definitions.specs.Rows.{entry, row_divisor, divided, IsPositiveMultiple};
-ghost use Rattle.row_definitions.specs.Combination.{FitsEntry, PassesNowhere, PassesFirst, combination, plain_combination, combined, column_divisor, target_factor, pivot_factor};
+ghost use Rattle.row_definitions.specs.Combination.{FitsEntry, ProductsFit, PassesNowhere, PassesFirst, plain_combination, combined};
 
 use crate::division::primitive;
 use crate::divisor::common_divisor;
@@ -14,10 +14,11 @@ pub struct Passed {
     pub column: u32,
 }
 
-/// Makes the target 0 in column `at`: with `g` the greatest common divisor of the two entries there, it becomes the
-/// primitive of `(pivot[at] / g) * target - (target[at] / g) * pivot`, so a positive multiple of it is the combination
-/// in which nothing is divided. Where a product or a difference passes 128 bits, the first such column is answered and
-/// the target stays as it was. The pivot's entry in the column is above 0, and no entry is the least `i128`.
+/// Makes the target 0 in column `at`. With `g` the greatest common divisor of the two entries there, it becomes the
+/// primitive of `(pivot[at] / g) * target - (target[at] / g) * pivot`: the combination `pivot[at] * target - target[at] *
+/// pivot`, in which nothing is divided, is a positive multiple of it. Where a product or a difference passes 128 bits,
+/// the first such column is answered and the target stays as it was. The pivot's entry in the column is above 0, and no
+/// entry is the least `i128`.
 pub fn combine(target: &mut [i128], pivot: &[i128], at: usize) -> Result<(), Passed>
     requires lengths { length target.old ≡ length pivot.now }
     requires columns { length target.old < 2 ^ 32 }
@@ -35,24 +36,65 @@ pub fn combine(target: &mut [i128], pivot: &[i128], at: usize) -> Result<(), Pas
 
     ensures fits { All FitsEntry target.new }
 {
-    let factors = factors_of(target[at], pivot[at]);
-    if let Some(column) = first_passing(target, pivot, factors) {
-        return Err(Passed {
-            column: column as u32,
-        });
+    match first_passing(target, pivot, at) {
+        Some(column) => Err(Passed { column }),
+        None => {
+            combine_within(target, pivot, at);
+            Ok(())
+        }
     }
-    write_combination(target, pivot, factors);
-    primitive(target);
-    Ok(())
 }
 
-// What the rows are multiplied by.
+/// The test of `combine`: the first column in which it passes 128 bits. The conditions are those of `combine`.
+pub fn first_passing(target: &[i128], pivot: &[i128], at: usize) -> Option<u32>
+    requires lengths { length target.now ≡ length pivot.now }
+    requires columns { length target.now < 2 ^ 32 }
+    requires at_in_range { at < length target.now }
+    requires positive { pos 0 <ℤ entry pivot.now at }
+    requires target_fits { All FitsEntry target.now }
+    requires pivot_fits { All FitsEntry pivot.now }
+
+    ensures first { IfSome result (PassesFirst target.now pivot.now at) }
+    ensures nowhere { IfNone result (PassesNowhere target.now pivot.now at) }
+{
+    let factors = factors_of(target[at], pivot[at]);
+    for column in 0..target.len() {
+        if combined_entry(target[column], pivot[column], factors).is_none() {
+            return Some(column as u32);
+        }
+    }
+    None
+}
+
+/// What `combine` does where it passes nowhere, for a caller that tested that. The other conditions are those of
+/// `combine`.
+pub fn combine_within(target: &mut [i128], pivot: &[i128], at: usize)
+    requires lengths { length target.old ≡ length pivot.now }
+    requires at_in_range { at < length target.old }
+    requires positive { pos 0 <ℤ entry pivot.now at }
+    requires target_fits { All FitsEntry target.old }
+    requires pivot_fits { All FitsEntry pivot.now }
+    requires passes_nowhere { PassesNowhere target.old pivot.now at }
+
+    ensures value { target.new ≡ combined target.old pivot.now at }
+    ensures multiple { IsPositiveMultiple (plain_combination target.old pivot.now at) target.new }
+    ensures fits { All FitsEntry target.new }
+{
+    let factors = factors_of(target[at], pivot[at]);
+    for column in 0..target.len() {
+        target[column] = factors.target * target[column] - factors.pivot * pivot[column];
+    }
+    primitive(target);
+}
+
+// What the two rows are multiplied by.
 #[derive(Clone, Copy)]
 struct Factors {
     target: i128,
     pivot: i128,
 }
 
+// The two entries of the column, divided by their greatest common divisor.
 fn factors_of(target: i128, pivot: i128) -> Factors
     requires positive { pos 0 <ℤ pivot }
     requires target_fits { FitsEntry target }
@@ -67,18 +109,9 @@ fn factors_of(target: i128, pivot: i128) -> Factors
     }
 }
 
-fn first_passing(target: &[i128], pivot: &[i128], factors: Factors) -> Option<usize>
-    requires { length target.now ≡ length pivot.now }
+fn combined_entry(target: i128, pivot: i128, factors: Factors) -> Option<i128>
+    ensures { SomeIff result (ProductsFit factors.target factors.pivot target pivot) (factors.target *ℤ target -ℤ factors.pivot *ℤ pivot) }
 {
-    for column in 0..target.len() {
-        if combined_entry(target[column], pivot[column], factors).is_none() {
-            return Some(column);
-        }
-    }
-    None
-}
-
-fn combined_entry(target: i128, pivot: i128, factors: Factors) -> Option<i128> {
     let target_product = product(factors.target, target)?;
     let pivot_product = product(factors.pivot, pivot)?;
     difference(target_product, pivot_product)
@@ -99,14 +132,5 @@ fn difference(a: i128, b: i128) -> Option<i128>
     match a.checked_sub(b) {
         Some(i128::MIN) => None,
         difference => difference,
-    }
-}
-
-fn write_combination(target: &mut [i128], pivot: &[i128], factors: Factors)
-    requires { length target.old ≡ length pivot.now }
-    ensures { target.new ≡ combination factors.target factors.pivot target.old pivot.now }
-{
-    for column in 0..target.len() {
-        target[column] = factors.target * target[column] - factors.pivot * pivot[column];
     }
 }

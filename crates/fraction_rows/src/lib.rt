@@ -10,7 +10,7 @@ mod combination;
 mod division;
 mod divisor;
 
-pub use combination::{Passed, combine};
+pub use combination::{Passed, combine, combine_within, first_passing};
 pub use division::primitive;
 
 #[cfg(test)]

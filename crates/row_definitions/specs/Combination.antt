@@ -1,5 +1,5 @@
 -- The combination of two rows that a pivot makes, and where it passes 128 bits.
-use Rattle.std.specs.Prelude.{◌≡◌, ℕ, ◌<◌, ◌^◌, List, [], ◌∷◌, length, ℤ, ◌-ℤ◌, ◌*ℤ◌, unsigned_abs}
+use Rattle.std.specs.Prelude.{ℕ, ◌<◌, ◌^◌, List, [], ◌∷◌, length, ℤ, ◌-ℤ◌, ◌*ℤ◌, unsigned_abs}
 use Rattle.row_definitions.specs.Rows.{entry, row_divisor, divided, primitive_row}
 
 -- `a * target - b * pivot`, column by column
@@ -36,11 +36,15 @@ combined target pivot at = primitive_row (reduced_combination target pivot at)
 abbrev pub FitsEntry : ℤ → Type 0
 FitsEntry x = unsigned_abs x < 2 ^ 127
 
--- in a column the two products of a combination and their difference fit an entry
-pub record FitsAt (target pivot : List ℤ) (at column : ℕ) : Type 0 where
-  pub target_product : FitsEntry (target_factor target pivot at *ℤ entry target column)
-  pub pivot_product : FitsEntry (pivot_factor target pivot at *ℤ entry pivot column)
-  pub difference : FitsEntry (target_factor target pivot at *ℤ entry target column -ℤ pivot_factor target pivot at *ℤ entry pivot column)
+-- the two products of an entry of the combination, and their difference, fit an entry
+pub record ProductsFit (a b t p : ℤ) : Type 0 where
+  pub target_product : FitsEntry (a *ℤ t)
+  pub pivot_product : FitsEntry (b *ℤ p)
+  pub difference : FitsEntry (a *ℤ t -ℤ b *ℤ p)
+
+-- in a column the two products of the reduced combination and their difference fit an entry
+abbrev pub FitsAt : List ℤ → List ℤ → ℕ → ℕ → Type 0
+FitsAt target pivot at column = ProductsFit (target_factor target pivot at) (pivot_factor target pivot at) (entry target column) (entry pivot column)
 
 -- in a column one of the two products or their difference does not fit an entry
 abbrev pub PassesAt : List ℤ → List ℤ → ℕ → ℕ → Type 0

@@ -1,5 +1,5 @@
 -- A row is a list of whole numbers with signs and without bound.
-use Rattle.std.specs.Prelude.{◌≡◌, ℕ, zero, suc, ◌+◌, ◌%◌, ◌<◌, Bool, true, cond, ◌&&◌, ◌==◌, List, [], ◌∷◌, map, ℤ, pos, ◌*ℤ◌, unsigned_abs, int_div, slice_index_or}
+use Rattle.std.specs.Prelude.{◌≡◌, ℕ, zero, suc, ◌%◌, ◌<◌, Bool, true, cond, ◌&&◌, ◌==◌, List, [], ◌∷◌, map, ℤ, pos, ◌*ℤ◌, unsigned_abs, int_div, slice_index_or}
 use Rattle.std.specs.List.{sum_by}
 
 -- the entry of a row in a column, and 0 past its end
@@ -32,10 +32,16 @@ primitive_row row = map (divided (row_divisor row)) row
 abbrev pub scaled : ℕ → List ℤ → List ℤ
 scaled factor row = map (λ x. pos factor *ℤ x) row
 
--- the row is the other one times a whole number above 0
-abbrev pub IsPositiveMultiple : List ℤ → List ℤ → Type 0
-IsPositiveMultiple row of = (factor : ℕ) × (0 < factor) × (row ≡ scaled factor of)
+-- the row is another one times a whole number above 0
+pub record IsPositiveMultiple (row of : List ℤ) : Type 0 where
+  pub factor : ℕ
+  pub above_zero : 0 < factor
+  pub is : row ≡ scaled factor of
 
--- the rows are the same up to a positive factor
-abbrev pub IsProportional : List ℤ → List ℤ → Type 0
-IsProportional row other = (m n : ℕ) × (0 < m) × (0 < n) × (scaled m row ≡ scaled n other)
+-- the rows are the same up to a positive factor: some positive multiple of both is one row
+pub record IsProportional (row other : List ℤ) : Type 0 where
+  pub row_factor : ℕ
+  pub other_factor : ℕ
+  pub row_above_zero : 0 < row_factor
+  pub other_above_zero : 0 < other_factor
+  pub meet : scaled row_factor row ≡ scaled other_factor other

@@ -7,31 +7,34 @@
 // - `combination_law`: to combine primitives gives the primitive of the plain combination.
 #![tactic(auto)]
 
-ghost use Rattle.row_definitions.specs.Laws.{DivisorDivides, DivisorIsGreatest, RowIsMultipleOfPrimitive, ZeroRowStays, PrimitiveKeepsDirection, PrimitiveStays, UnitEntryIsPrimitive, PrimitiveOfMultiple, PrimitiveOfProportional, CombinedIsPlain, CombinedOfKeptForms};
+ghost use Rattle.row_definitions.specs.Laws.{DivisorDivides, DivisorIsGreatest, RowIsMultipleOfPrimitive, ZeroRowStays, PrimitiveKeepsDirection, MultipleKeepsSigns, PrimitiveStays, UnitEntryIsPrimitive, PrimitiveFits, PrimitiveOfMultiple, PrimitiveOfProportional, CombinedIsPlain, CombinedOfKeptForms, CombinedIsZeroThere, ZeroThereStays, ZeroThereFits};
 
 /// The divisor of a row is the greatest common divisor of its entries.
 pub fn divisor_law()
     ensures divides { DivisorDivides }
     ensures greatest { DivisorIsGreatest }
-{
-}
+{}
 
-/// A row is a positive multiple of its primitive; rows that are the same up to a positive factor have one primitive,
-/// and a primitive row is its own.
+/// A row is a positive multiple of its primitive, so they have the same signs; rows that are the same up to a positive
+/// factor have one primitive, and a primitive row is its own.
 pub fn primitive_law()
     ensures by_the_divisor { RowIsMultipleOfPrimitive }
     ensures zeros { ZeroRowStays }
     ensures direction { PrimitiveKeepsDirection }
+    ensures signs { MultipleKeepsSigns }
     ensures stays { PrimitiveStays }
     ensures unit_entry { UnitEntryIsPrimitive }
+    ensures fits { PrimitiveFits }
     ensures multiple { PrimitiveOfMultiple }
     ensures proportional { PrimitiveOfProportional }
-{
-}
+{}
 
-/// Combining rows whose entries were divided gives the primitive of the combination in which nothing is divided.
+/// Combining primitives gives the primitive of the combination in which nothing is divided. It is 0 in the column that it
+/// is made for, and a row that is 0 there already stays, up to a factor, and passes nowhere.
 pub fn combination_law()
     ensures entries_divided_first { CombinedIsPlain }
     ensures kept_forms { CombinedOfKeptForms }
-{
-}
+    ensures zero_there { CombinedIsZeroThere }
+    ensures zero_there_stays { ZeroThereStays }
+    ensures zero_there_fits { ZeroThereFits }
+{}
