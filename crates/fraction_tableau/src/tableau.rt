@@ -111,22 +111,19 @@ impl Tableau {
         ensures { IsValueOf self.now column result }
     {
         match self.row_of(column) {
-            Some(row) => (self.right_side(row), self.entry(row, column)),
+            Some(row) => (self.right_side(row as u32), self.entry(row as u32, column)),
             None => (0, 1),
         }
     }
 
     // The row in which a column is basic.
-    fn row_of(&self, column: u32) -> Option<u32>
+    fn row_of(&self, column: u32) -> Option<usize>
         ensures value { result ≡ position (λ basic. basic == column) self.now.basis }
         ensures within { IfSome result (λ row. row < length self.now.basis) }
+        ensures few { length self.now.basis ≤ 2048 }
+        ensures tableau { IsTableau self.now }
     {
-        for row in 0..self.rows() {
-            if self.basic(row) == column {
-                return Some(row);
-            }
-        }
-        None
+        self.basis.iter().position(|basic| *basic == column)
     }
 
     /// The multiplier of a row of the program: the negative of the objective row's entry in the row's slack column.

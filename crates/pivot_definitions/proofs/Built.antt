@@ -1,9 +1,9 @@
 -- The tableau of a program as built is a tableau, and its entries fit where the program's numbers do.
 use Rattle.std.proofs.Common.{◌≡◌, ℕ, zero, suc, ◌+◌, ◌-◌, ◌*◌, ◌<◌, ◌≤◌, List, [], ◌∷◌, ◌++◌, map, length, get_or, set, take, drop, replicate, refl, sym, ap, ap₂, ◌∙◌, subst, arith, lit<, mul-le-mul_right}
 use Rattle.std.specs.List.{All, range_with_len}
-use Rattle.std.proofs.lemmas.List.{length-append, length-map, length-replicate, length-take-le, length-drop}
+use Rattle.std.proofs.lemmas.List.{length-append, length-map, length-replicate, length-take-le, length-drop, map-id}
 use Rattle.std.proofs.lemmas.List.Elements.{All-append, All-cons, All-nil, All-map, All-replicate, All-take, All-drop, All-get_or, All-from_get_or}
-use Rattle.std.proofs.lemmas.List.FromFn.{length-map-range_with_len, get_or-map-range_with_len}
+use Rattle.std.proofs.lemmas.List.FromFn.{length-map-range_with_len, get_or-map-range_with_len, map-range_with_len_more}
 use lib.IntN.{ℤ, pos}
 use Rattle.row_definitions.specs.Rows.{entry}
 use Rattle.row_definitions.specs.Combination.{FitsEntry}
@@ -56,3 +56,31 @@ built-HasFittingEntries program is fits = All-append (All FitsEntry) (map (built
         (All-append FitsEntry (coefficient_row program k) (unit_row program.rows k) (All-take FitsEntry program.columns (drop (k * program.columns) program.coefficients) (All-drop FitsEntry (k * program.columns) program.coefficients fits.coefficients)) (fits_unit program.rows k))
         (All-cons FitsEntry (entry program.right_sides k) [] (All-get_or FitsEntry program.right_sides k (pos 0) (omega (arith, is.every_right_side)) fits.right_sides) (All-nil FitsEntry)))))
     (All-cons (All FitsEntry) (built_objective program) [] (All-cons FitsEntry (pos 1) (replicate (program.columns + program.rows) (pos 0)) (lit< tt) (All-replicate FitsEntry (program.columns + program.rows) (pos 0) (lit< tt))) (All-nil _))
+
+-- one more number of a range
+pub range_more : (a n : ℕ) → range_with_len a (n + 1) ≡ range_with_len a n ++ (a + n) ∷ []
+range_more a n = sym (map-id (range_with_len a (n + 1))) ∙ map-range_with_len_more (λ x. x) a n (a + n) refl ∙ ap (λ xs. xs ++ (a + n) ∷ []) (map-id (range_with_len a n))
+
+-- one more row of the tableau as built
+pub rows_more : (program : LinearProgram) (n : ℕ) {pushed rows : List (List ℤ)} {row : List ℤ} → pushed ≡ rows ++ row ∷ [] → rows ≡ map (built_row program) (range_with_len 0 n) → row ≡ built_row program n → pushed ≡ map (built_row program) (range_with_len 0 (n + 1))
+rows_more program n last before is = last ∙ ap₂ (λ xs x. xs ++ x ∷ []) before is ∙ sym (map-range_with_len_more (built_row program) 0 n n (omega arith))
+
+-- one more basic column
+pub basis_more : (a n : ℕ) {pushed basis : List ℕ} {x : ℕ} → pushed ≡ basis ++ x ∷ [] → basis ≡ range_with_len a n → x ≡ a + n → pushed ≡ range_with_len a (n + 1)
+basis_more a n last before is = last ∙ ap₂ (λ xs x. xs ++ x ∷ []) before is ∙ sym (range_more a n)
+
+-- what is known of a tableau whose parts are those of the tableau as built
+pub record BuiltFacts (tableau : SimplexTableau) : Type 0 where
+  pub tableau_holds : IsTableau tableau
+  pub fits : HasFittingEntries tableau
+  pub few_rows : length tableau.basis ≤ 2048
+
+pub built_facts : (program : LinearProgram) → IsProgram program → FitsEntries program → program.rows ≤ 2048 → (columns n : ℕ) (rows all : List (List ℤ)) (last : List ℤ) (basis : List ℕ)
+  → columns ≡ program.columns → n ≡ program.rows → all ≡ rows ++ last ∷ [] → rows ≡ map (built_row program) (range_with_len 0 n) → last ≡ built_objective program → basis ≡ range_with_len columns n
+  → BuiltFacts (record { columns = columns; rows = all; basis = basis })
+built_facts program is fits few columns n rows all last basis columns_is n_is all_is rows_is last_is basis_is =
+    let same_rows : all ≡ (built program).rows = all_is ∙ ap₂ (λ xs x. xs ++ x ∷ []) (rows_is ∙ ap (λ k. map (built_row program) (range_with_len 0 k)) n_is) last_is in
+    let same_basis : basis ≡ (built program).basis = basis_is ∙ ap₂ (λ a k. range_with_len a k) columns_is n_is in
+    let whole : built program ≡ record { columns = columns; rows = all; basis = basis } = sym (ap₂ (λ xs bs. record { columns = columns; rows = xs; basis = bs }) same_rows same_basis ∙ ap (λ k. record { columns = k; rows = (built program).rows; basis = (built program).basis }) columns_is) in
+    let facts : BuiltFacts (built program) = record { tableau_holds = built-IsTableau program is; fits = built-HasFittingEntries program is fits; few_rows = omega (arith, length-range program.columns program.rows) } in
+    subst BuiltFacts whole facts

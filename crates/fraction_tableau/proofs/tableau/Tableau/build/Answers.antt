@@ -1,11 +1,19 @@
-use Rattle.std.proofs.Common.{◌≡◌, ℕ, ◌+◌, arith, ap, ◌∙◌, refl, sym}
-use Rattle.std.proofs.lemmas.List.FromFn.{map-range_with_len_more}
-use Rattle.pivot_definitions.specs.Tableaus.{built_row}
-use Rattle.pivot_definitions.proofs.Built.{built-IsTableau, built-HasFittingEntries}
+use Rattle.std.proofs.Common.{◌≡◌, ℕ, ◌+◌, ◌≤◌, List, arith, ap, ◌∙◌, refl, sym, subst}
+use lib.IntN.{ℤ}
+use Rattle.pivot_definitions.specs.Tableaus.{SimplexTableau, IsTableau, HasFittingEntries, built}
+use Rattle.pivot_definitions.proofs.Built.{rows_more, basis_more, built_facts}
 use Rattle.fraction_tableau.proofs.tableau.Tableau.build.Goals as goal
 
 pub loop-row-preserved : goal.loop-row-preserved
-loop-row-preserved c = ?
+loop-row-preserved c = record {
+  rows = rows_more c.args.program.now c.loop-row.row c.in_ok-push.ensures.items c.loop-row.invariant.rows c.in_ok-constraint.ensures;
+  basis = basis_more c.columns-columns.result c.loop-row.row c.in_ok-push-2.ensures.items c.loop-row.invariant.basis refl;
+}
 
 pub invariant_of-result : goal.invariant_of-result
-invariant_of-result c = ?
+invariant_of-result c =
+    let program = c.args.program.now in
+    let whole : c.loop-row.row ≡ program.rows = omega arith in
+    let few : program.rows ≤ 2048 = omega arith in
+    let facts = built_facts program c.columns-columns.ensures.program c.columns-columns.ensures.fits few c.columns-columns.result c.loop-row.row _ _ _ _ c.columns-columns.ensures.value whole c.in_ok-push-3.ensures.items c.loop-row.invariant.rows c.in_ok-objective.ensures c.loop-row.invariant.basis in
+    (c.columns-columns.ensures.few, facts.few_rows, facts.tableau_holds, facts.fits)
