@@ -1,4 +1,5 @@
 pub mod Programs
 pub mod Tableaus
 pub mod Runs
+pub mod Feasible
 pub mod Laws

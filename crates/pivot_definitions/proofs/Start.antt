@@ -1,0 +1,107 @@
+-- The tableau of a program as built: its entries, its basic columns, its right sides and its cap.
+use Rattle.std.proofs.Common.{◌≡◌, ◌≢◌, ℕ, zero, suc, ◌+◌, ◌-◌, ◌*◌, ◌<◌, ◌≤◌, ◌⊎◌, inl, inr, List, [], ◌∷◌, ◌++◌, map, length, get_or, set, take, drop, replicate, refl, sym, ap, ap₂, ◌∙◌, subst, arith}
+use Rattle.std.specs.List.{All, range_with_len}
+use Rattle.std.proofs.lemmas.List.{length-append, length-map, length-replicate, get_or_default, get_or_append_left, get_or-append_right, get_or_at, get_or-replicate}
+use Rattle.std.proofs.lemmas.List.FromFn.{length-map-range_with_len, get_or-map-range_with_len, get_or-range_with_len}
+use Rattle.std.proofs.lemmas.Bool.{cases_lt}
+use lib.IntN.{ℤ, pos, ◌-ℤ◌, ◌*ℤ◌}
+use lib.Signed.{◌<ℤ◌, ◌≤ℤ◌}
+use Rattle.row_definitions.specs.Rows.{entry}
+use Rattle.pivot_definitions.specs.Programs.{LinearProgram, IsProgram, IsCapped, coefficient_row, unit_row}
+use Rattle.pivot_definitions.specs.Tableaus.{SimplexTableau, IsTableau, row_at, entry_at, basic_column, column_count, objective, right_side, built, built_row, built_objective}
+use Rattle.pivot_definitions.specs.Feasible.{IsCanonical, HasNoNegativeRightSide, IsFeasible}
+use borrow.Author.Differences.{same_out}
+use Rattle.pivot_definitions.proofs.Ring.{by_eq, linear}
+use Rattle.pivot_definitions.proofs.Built.{length-range, length-unit, length-coefficients, built-IsTableau}
+use Rattle.pivot_definitions.proofs.Level.{CapFacts, UnitFacts}
+
+zeros : (n k : ℕ) → entry (replicate n (pos 0)) k ≡ pos 0
+zeros zero k = refl
+zeros (suc n) zero = refl
+zeros (suc n) (suc k) = zeros n k
+
+pub unit_here : (width column : ℕ) → entry (unit_row width column) column ≡ pos 1
+unit_here width column = get_or_at (replicate column (pos 0)) (pos 1) (replicate (width - 1 - column) (pos 0)) (pos 0) column (length-replicate column (pos 0))
+
+after_one : (n k : ℕ) → k ≢ 0 → entry (pos 1 ∷ replicate n (pos 0)) k ≡ pos 0
+after_one n zero h = absurd (h refl)
+after_one n (suc k) h = zeros n k
+
+pub unit_elsewhere : (width column k : ℕ) → k ≢ column → entry (unit_row width column) k ≡ pos 0
+unit_elsewhere width column k differ = elim (cases_lt k column) [
+    inl before ↦ get_or_append_left (replicate column (pos 0)) (pos 1 ∷ replicate (width - 1 - column) (pos 0)) (pos 0) k (omega (arith, length-replicate column (pos 0))) ∙ zeros column k
+  | inr after ↦ get_or-append_right (replicate column (pos 0)) (pos 1 ∷ replicate (width - 1 - column) (pos 0)) column k (pos 0) (length-replicate column (pos 0)) after ∙ after_one (width - 1 - column) (k - column) (omega arith)
+  ]
+
+pub unit_facts : (program : LinearProgram) → UnitFacts (entry (built_objective program))
+unit_facts program = record { at_level = refl; elsewhere = after_one (program.columns + program.rows) }
+
+-- a coefficient of a row as built
+pub built_coefficient : (program : LinearProgram) → IsProgram program → (i k : ℕ) → i < program.rows → k < program.columns → entry (built_row program i) k ≡ entry (coefficient_row program i) k
+built_coefficient program is i k row column =
+    get_or_append_left (coefficient_row program i ++ unit_row program.rows i) (entry program.right_sides i ∷ []) (pos 0) k (omega (arith, length-append (coefficient_row program i) (unit_row program.rows i), length-coefficients program is i row))
+    ∙ get_or_append_left (coefficient_row program i) (unit_row program.rows i) (pos 0) k (omega (arith, length-coefficients program is i row))
+
+-- a slack entry of a row as built
+pub built_slack : (program : LinearProgram) → IsProgram program → (i j : ℕ) → i < program.rows → j < program.rows → entry (built_row program i) (program.columns + j) ≡ entry (unit_row program.rows i) j
+built_slack program is i j row column =
+    get_or_append_left (coefficient_row program i ++ unit_row program.rows i) (entry program.right_sides i ∷ []) (pos 0) (program.columns + j) (omega (arith, length-append (coefficient_row program i) (unit_row program.rows i), length-coefficients program is i row, length-unit program.rows i row))
+    ∙ get_or-append_right (coefficient_row program i) (unit_row program.rows i) program.columns (program.columns + j) (pos 0) (length-coefficients program is i row) (omega arith)
+    ∙ ap (entry (unit_row program.rows i)) (let e : program.columns + j - program.columns ≡ j = omega arith in e)
+
+-- the right side of a row as built
+pub built_right_side : (program : LinearProgram) → IsProgram program → (i : ℕ) → i < program.rows → entry (built_row program i) (program.columns + program.rows) ≡ entry program.right_sides i
+built_right_side program is i row =
+    get_or_at (coefficient_row program i ++ unit_row program.rows i) (entry program.right_sides i) [] (pos 0) (program.columns + program.rows) (omega (arith, length-append (coefficient_row program i) (unit_row program.rows i), length-coefficients program is i row, length-unit program.rows i row))
+
+pub row_built : (program : LinearProgram) (i : ℕ) → i < program.rows → row_at (built program) i ≡ built_row program i
+row_built program i row =
+    get_or_append_left (map (built_row program) (range_with_len 0 program.rows)) (built_objective program ∷ []) [] i (omega (arith, length-map-range_with_len (built_row program) 0 program.rows))
+    ∙ get_or-map-range_with_len (built_row program) 0 program.rows i i [] row (omega arith)
+
+pub objective_built : (program : LinearProgram) → row_at (built program) program.rows ≡ built_objective program
+objective_built program = get_or_at (map (built_row program) (range_with_len 0 program.rows)) (built_objective program) [] [] program.rows (length-map-range_with_len (built_row program) 0 program.rows)
+
+pub basic_built : (program : LinearProgram) (i : ℕ) → i < program.rows → basic_column (built program) i ≡ program.columns + i
+basic_built program i row = get_or-range_with_len program.columns program.rows i 0 row
+
+pub built_feasible : (program : LinearProgram) → IsProgram program → IsFeasible (built program)
+built_feasible program is =
+    let count : length (built program).basis ≡ program.rows = length-range program.columns program.rows in
+    let shape = built-IsTableau program is in
+    record {
+      shape = shape;
+      canonical = record {
+        positive = λ i h.
+          (let row : i < program.rows = omega (arith, count) in
+          let e : entry_at (built program) i (basic_column (built program) i) ≡ pos 1 = ap₂ entry (row_built program i row) (basic_built program i row) ∙ built_slack program is i i row row ∙ unit_here program.rows i in
+          omega (arith, linear, same_out _ _ e));
+        zero_elsewhere = λ i j h k differ.
+          (let row : i < program.rows = omega (arith, count) in
+          by_eq j program.rows
+            (λ last. ap₂ entry (ap (row_at (built program)) last ∙ objective_built program) (basic_built program i row) ∙ (unit_facts program).elsewhere (program.columns + i) (let some = is.some_column in omega arith))
+            (λ other. let row_j : j < program.rows = omega (arith, count, shape.row_count) in
+              ap₂ entry (row_built program j row_j) (basic_built program i row) ∙ built_slack program is j i row_j row ∙ unit_elsewhere program.rows j i (λ e. differ (sym e))));
+      };
+      right_sides = λ i h.
+        (let row : i < program.rows = omega (arith, count) in
+        let e : right_side (built program) i ≡ entry program.right_sides i = ap₂ entry (row_built program i row) (ap (λ n. program.columns + n) count) ∙ built_right_side program is i row in
+        subst (λ z. pos 0 ≤ℤ z) (sym e) (is.not_negative i (pos 0) (omega (arith, is.every_right_side))));
+    }
+
+-- the cap's row as built
+pub cap_facts : (program : LinearProgram) → IsProgram program → IsCapped program → CapFacts (entry (built_row program (program.rows - 1))) (program.columns + (program.rows - 1)) (program.columns + program.rows)
+cap_facts program is capped =
+    let some_row = is.some_row in
+    let some_column = is.some_column in
+    let last : program.rows - 1 < program.rows = omega arith in
+    record {
+      at_level = built_coefficient program is (program.rows - 1) 0 last some_column ∙ ap (λ r. entry r 0) capped.cap ∙ unit_here program.columns 0;
+      at_slack = built_slack program is (program.rows - 1) (program.rows - 1) last last ∙ unit_here program.rows (program.rows - 1);
+      elsewhere = λ k within not_level not_slack. elim (cases_lt k program.columns) [
+          inl column ↦ built_coefficient program is (program.rows - 1) k last column ∙ ap (λ r. entry r k) capped.cap ∙ unit_elsewhere program.columns 0 k not_level
+        | inr after ↦
+            (let e : program.columns + (k - program.columns) ≡ k = omega arith in
+            ap (entry (built_row program (program.rows - 1))) (sym e) ∙ built_slack program is (program.rows - 1) (k - program.columns) last (omega arith) ∙ unit_elsewhere program.rows (program.rows - 1) (k - program.columns) (omega arith))
+        ];
+    }
