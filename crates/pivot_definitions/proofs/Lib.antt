@@ -6,3 +6,4 @@ pub mod Feasible
 pub mod Level
 pub mod Start
 pub mod Reached
+pub mod Signs

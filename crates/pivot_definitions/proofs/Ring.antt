@@ -126,3 +126,9 @@ pub ruleset linear = (same_out, lt_out, le_out, same_in, below_in, at_most_in, s
 -- two numbers are the same or not
 pub by_eq : {P : Type 0} (a b : ℕ) → (a ≡ b → P) → (a ≢ b → P) → P
 by_eq a b same differ = elim (cases_eq a b) [ inl e ↦ same e | inr n ↦ differ n ]
+
+pub mul_below : (a b c : ℤ) → pos 0 <ℤ a → b <ℤ c → (a *ℤ b) <ℤ (a *ℤ c)
+mul_below a b c h k =
+    let x = mul_pos a (c -ℤ b) h (below_in _ _ (omega (arith, sums, lt_out _ _ k))) in
+    let y : pos 0 <ℤ (a *ℤ c -ℤ a *ℤ b) = rw (sub_right a b c) at x in
+    below_in _ _ (omega (arith, sums, lt_out _ _ y))
