@@ -1,11 +1,11 @@
 // The combination of two rows that makes the first 0 in a column.
-ghost use Rattle.std.specs.Prelude.{◌≡◌, ◌<◌, ◌^◌, ◌∷◌, [], length, pos, ◌<ℤ◌, ◌-ℤ◌, ◌*ℤ◌, SomeIff, IfSome, IfNone, OnOk, IfErr, OnErr};
+ghost use Rattle.std.specs.Prelude.{◌≡◌, ◌<◌, ◌^◌, length, pos, ◌<ℤ◌, ◌-ℤ◌, ◌*ℤ◌, SomeIff, IfSome, IfNone, OnOk, IfErr, OnErr};
 ghost use Rattle.std.specs.List.{All};
-ghost use Rattle.row_definitions.specs.Rows.{entry, row_divisor, divided, IsPositiveMultiple};
-ghost use Rattle.row_definitions.specs.Combination.{FitsEntry, ProductsFit, PassesNowhere, PassesFirst, plain_combination, combined};
+ghost use Rattle.row_definitions.specs.Rows.{entry, IsPositiveMultiple};
+ghost use Rattle.row_definitions.specs.Combination.{FitsEntry, ProductsFit, PassesNowhere, PassesFirst, plain_combination, combined, target_factor, pivot_factor};
 
 use crate::division::primitive;
-use crate::divisor::common_divisor;
+use crate::divisor::{divisor_of_pair, quotient};
 
 /// A combination passed 128 bits: in this column, the first such, one of the two products or their difference is above
 /// `2^127 - 1` or below `-(2^127 - 1)`.
@@ -57,9 +57,9 @@ pub fn first_passing(target: &[i128], pivot: &[i128], at: usize) -> Option<u32>
     ensures first { IfSome result (PassesFirst target.now pivot.now at) }
     ensures nowhere { IfNone result (PassesNowhere target.now pivot.now at) }
 {
-    let factors = factors_of(target[at], pivot[at]);
+    let factors = factors_of(target, pivot, at);
     for column in 0..target.len() {
-        if combined_entry(target[column], pivot[column], factors).is_none() {
+        if checked_entry(target[column], pivot[column], factors).is_none() {
             return Some(column as u32);
         }
     }
@@ -80,9 +80,9 @@ pub fn combine_within(target: &mut [i128], pivot: &[i128], at: usize)
     ensures multiple { IsPositiveMultiple (plain_combination target.old pivot.now at) target.new }
     ensures fits { All FitsEntry target.new }
 {
-    let factors = factors_of(target[at], pivot[at]);
+    let factors = factors_of(target, pivot, at);
     for column in 0..target.len() {
-        target[column] = factors.target * target[column] - factors.pivot * pivot[column];
+        target[column] = fitting_entry(target[column], pivot[column], factors);
     }
     primitive(target);
 }
@@ -95,26 +95,36 @@ struct Factors {
 }
 
 // The two entries of the column, divided by their greatest common divisor.
-fn factors_of(target: i128, pivot: i128) -> Factors
-    requires positive { pos 0 <ℤ pivot }
-    requires target_fits { FitsEntry target }
-    requires pivot_fits { FitsEntry pivot }
-    ensures target { result.target ≡ divided (row_divisor (pivot ∷ target ∷ [])) pivot }
-    ensures pivot { result.pivot ≡ divided (row_divisor (pivot ∷ target ∷ [])) target }
+fn factors_of(target: &[i128], pivot: &[i128], at: usize) -> Factors
+    requires lengths { length target.now ≡ length pivot.now }
+    requires at_in_range { at < length target.now }
+    requires positive { pos 0 <ℤ entry pivot.now at }
+    requires target_fits { All FitsEntry target.now }
+    requires pivot_fits { All FitsEntry pivot.now }
+    ensures target { result.target ≡ target_factor target.now pivot.now at }
+    ensures pivot { result.pivot ≡ pivot_factor target.now pivot.now at }
 {
-    let divisor = common_divisor(pivot.unsigned_abs(), target.unsigned_abs()) as i128;
+    let divisor = divisor_of_pair(pivot[at], target[at]);
     Factors {
-        target: pivot / divisor,
-        pivot: target / divisor,
+        target: quotient(pivot[at], divisor),
+        pivot: quotient(target[at], divisor),
     }
 }
 
-fn combined_entry(target: i128, pivot: i128, factors: Factors) -> Option<i128>
+// An entry of the combination, where its products and their difference fit.
+fn checked_entry(target: i128, pivot: i128, factors: Factors) -> Option<i128>
     ensures { SomeIff result (ProductsFit factors.target factors.pivot target pivot) (factors.target *ℤ target -ℤ factors.pivot *ℤ pivot) }
 {
     let target_product = product(factors.target, target)?;
     let pivot_product = product(factors.pivot, pivot)?;
     difference(target_product, pivot_product)
+}
+
+fn fitting_entry(target: i128, pivot: i128, factors: Factors) -> i128
+    requires { ProductsFit factors.target factors.pivot target pivot }
+    ensures { result ≡ factors.target *ℤ target -ℤ factors.pivot *ℤ pivot }
+{
+    factors.target * target - factors.pivot * pivot
 }
 
 fn product(a: i128, b: i128) -> Option<i128>

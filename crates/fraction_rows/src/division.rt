@@ -4,7 +4,7 @@ ghost use Rattle.std.specs.List.{All};
 ghost use Rattle.row_definitions.specs.Rows.{divided, primitive_row};
 ghost use Rattle.row_definitions.specs.Combination.{FitsEntry};
 
-use crate::divisor::divisor_of;
+use crate::divisor::{divisor_of, quotient};
 
 /// Divides the row by the greatest common divisor of its entries. Each entry keeps its sign, and a row of zeros stays.
 /// No entry may be the least `i128`. Costs a step of Euclid's algorithm an entry until the divisor is 1, and otherwise a
@@ -25,6 +25,6 @@ fn divide(row: &mut [i128], divisor: i128)
     ensures { row.new ≡ map (divided (unsigned_abs divisor)) row.old }
 {
     for x in row.iter_mut() {
-        *x = *x / divisor;
+        *x = quotient(*x, divisor);
     }
 }

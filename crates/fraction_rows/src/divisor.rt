@@ -1,7 +1,8 @@
 // The greatest common divisor of two numbers, and of a row.
-ghost use Rattle.std.specs.Prelude.{◌≡◌};
+ghost use Rattle.std.specs.Prelude.{◌≡◌, ◌∷◌, [], pos, ◌<ℤ◌, unsigned_abs};
 ghost use Rattle.std.specs.Int.{IsGcd};
-ghost use Rattle.row_definitions.specs.Rows.{row_divisor};
+ghost use Rattle.row_definitions.specs.Rows.{row_divisor, divided};
+ghost use Rattle.row_definitions.specs.Combination.{FitsEntry};
 
 // Euclid's algorithm.
 pub(crate) fn common_divisor(a: u128, b: u128) -> u128
@@ -29,4 +30,22 @@ pub(crate) fn divisor_of(row: &[i128]) -> u128
         }
     }
     divisor
+}
+
+// The same of two numbers of which the first is above 0.
+pub(crate) fn divisor_of_pair(first: i128, second: i128) -> i128
+    requires positive { pos 0 <ℤ first }
+    requires first_fits { FitsEntry first }
+    requires second_fits { FitsEntry second }
+    ensures value { result ≡ pos (row_divisor (first ∷ second ∷ [])) }
+    ensures positive { pos 0 <ℤ result }
+{
+    common_divisor(first.unsigned_abs(), second.unsigned_abs()) as i128
+}
+
+pub(crate) fn quotient(x: i128, divisor: i128) -> i128
+    requires { pos 0 <ℤ divisor }
+    ensures { result ≡ divided (unsigned_abs divisor) x }
+{
+    x / divisor
 }

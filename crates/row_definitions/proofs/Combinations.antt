@@ -1,14 +1,15 @@
 -- The combination of kept forms is the kept form of the plain combination.
 use Rattle.std.proofs.Common.{◌≡◌, ℕ, zero, suc, ◌*◌, ◌<◌, List, [], ◌∷◌, map, ℤ, pos, negsuc, ◌*ℤ◌, ◌-ℤ◌, ◌<ℤ◌, unsigned_abs, refl, sym, ap, ap₂, subst, ◌∙◌, arith, mul_comm, mul-pos, length, lit<, All}
 use Rattle.std.proofs.lemmas.Int.{ints}
+use Rattle.std.proofs.lemmas.List.Elements.{All-from_get_or}
 use Rattle.std.proofs.lemmas.Nat.Gcd.{dvd_refl, dvd-zero}
 use Rattle.std.proofs.Math.Nat.{div_self}
 use Rattle.std.proofs.Math.IntN.{*ℤ-zero, zero-*ℤ, *ℤ_comm, +ℤ_invr, +ℤ_idr}
-use Rattle.row_definitions.specs.Rows.{entry, row_divisor, divided, primitive_row, scaled}
+use Rattle.row_definitions.specs.Rows.{entry, row_divisor, divided, primitive_row, scaled, IsPositiveMultiple}
 use Rattle.row_definitions.specs.Combination.{combination, plain_combination, column_divisor, target_factor, pivot_factor, reduced_combination, combined, FitsEntry, PassesNowhere}
 use Rattle.row_definitions.proofs.Numbers.{*ℤ_assoc, *ℤ_swap, *ℤ--ℤ, one-*ℤ, divided-exact, divided-zero, not-below_zero, pos-of_multiple}
 use Rattle.row_definitions.proofs.Divisors.{row_divisor_is, row_divisor_from}
-use Rattle.row_definitions.proofs.Primitives.{entry-scaled, row_divisor-pos, primitive_row-scaled, IsPositiveMultiple-primitive_row}
+use Rattle.row_definitions.proofs.Primitives.{entry-scaled, row_divisor-pos, primitive_row-scaled, scaled-scaled, IsPositiveMultiple-primitive_row}
 
 -- both factors taken so many times
 pub combination-scaled_factors : (k : ℕ) (a b : ℤ) (target pivot : List ℤ) → combination (pos k *ℤ a) (pos k *ℤ b) target pivot ≡ scaled k (combination a b target pivot)
@@ -38,7 +39,7 @@ plain_combination-scaled m n target pivot at =
 
 -- ---- the two entries of the column
 
-size-pos : (x : ℤ) → pos 0 <ℤ x → 0 < unsigned_abs x
+pub size-pos : (x : ℤ) → pos 0 <ℤ x → 0 < unsigned_abs x
 size-pos (pos n) h = omega (arith, ints)
 size-pos (negsuc n) h = omega arith
 
@@ -164,3 +165,23 @@ fits-zero target pivot at fits h z column below =
       pivot_product = subst FitsEntry (sym (ap (λ f. f *ℤ p) b ∙ zero-*ℤ p)) zero_fits;
       difference = subst FitsEntry (sym (ap₂ (λ f g. f *ℤ t -ℤ g *ℤ p) a b ∙ difference-zero t p)) entry_fits;
     }
+
+-- ---- the plain combination, and what the target becomes
+
+pub IsPositiveMultiple-combined : (target pivot : List ℤ) (at : ℕ) → pos 0 <ℤ entry pivot at → IsPositiveMultiple (plain_combination target pivot at) (combined target pivot at)
+IsPositiveMultiple-combined target pivot at h =
+    let g = column_divisor target pivot at in
+    let rest = IsPositiveMultiple-primitive_row (reduced_combination target pivot at) in
+    record {
+      factor = g * rest.factor;
+      above_zero = mul-pos (column_divisor-pos target pivot at h) rest.above_zero;
+      is = plain_combination_is target pivot at ∙ ap (scaled g) rest.is ∙ scaled-scaled g rest.factor (combined target pivot at);
+    }
+
+-- where the combination passes nowhere, its entries fit
+pub FitsEntry-reduced_combination : (target pivot : List ℤ) (at : ℕ) → length target ≡ length pivot → PassesNowhere target pivot at → All FitsEntry (reduced_combination target pivot at)
+FitsEntry-reduced_combination target pivot at e h =
+    let a = target_factor target pivot at in
+    let b = pivot_factor target pivot at in
+    let n = length-combination a b target pivot e in
+    All-from_get_or FitsEntry (reduced_combination target pivot at) (pos 0) (λ column below. subst FitsEntry (sym (entry-combination a b target pivot column e)) (h column (subst (λ m. column < m) n below)).difference)

@@ -109,7 +109,7 @@ pos-of_multiple k (pos zero) h = absurd (not-below_zero 0 (subst (λ n. pos 0 <�
 pos-of_multiple k (pos (suc n)) h = omega (arith, ints)
 pos-of_multiple k (negsuc n) h = absurd (not-below_zero (k * suc n) h)
 
-above_zero : (n : ℕ) → 0 < n → pos 0 <ℤ pos n
+pub above_zero : (n : ℕ) → 0 < n → pos 0 <ℤ pos n
 above_zero n h = omega (arith, ints)
 
 size_above_zero : (n : ℕ) → pos 0 <ℤ pos n → 0 < n

@@ -1,5 +1,5 @@
 -- A row is a positive multiple of its primitive, and rows of one direction have one primitive.
-use Rattle.std.proofs.Common.{◌≡◌, ℕ, zero, suc, ◌*◌, ◌/◌, ◌<◌, List, [], ◌∷◌, map, ℤ, pos, ◌*ℤ◌, unsigned_abs, All, refl, sym, ap, ap₂, subst, ◌∙◌, arith, eq-zero-or-pos, inl, inr, ◌↔◌, ◌<ℤ◌, lt_of_le_of_lt}
+use Rattle.std.proofs.Common.{◌≡◌, ℕ, zero, suc, ◌*◌, ◌/◌, ◌<◌, List, [], ◌∷◌, map, ℤ, pos, ◌*ℤ◌, unsigned_abs, All, refl, sym, ap, ap₂, subst, ◌∙◌, arith, eq-zero-or-pos, inl, inr, ◌↔◌, ◌<ℤ◌, ◌≤◌, lt_of_le_of_lt}
 use Rattle.std.specs.Int.{◌∣◌}
 use Rattle.std.proofs.lemmas.Int.{unsigned_abs-mul}
 use Rattle.std.proofs.lemmas.List.Elements.{All-map, All-weaker}
@@ -137,6 +137,15 @@ signs-multiple row of column w =
       ((λ h. pos-of_multiple k x (subst (λ y. pos 0 <ℤ y) e h)), (λ h. subst (λ y. pos 0 <ℤ y) (sym e) (multiple-pos k x w.above_zero h))),
       ((λ h. neg-of_multiple k x (subst (λ y. y <ℤ pos 0) e h)), (λ h. subst (λ y. y <ℤ pos 0) (sym e) (multiple-neg k x w.above_zero h))),
     )
+
+-- a row with no divisor above 1 is its own primitive
+pub primitive_row-undivided : (row : List ℤ) → row_divisor row ≤ 1 → primitive_row row ≡ row
+primitive_row-undivided row h = by_divisor (row_divisor row) refl h
+  where
+    by_divisor : (g : ℕ) → row_divisor row ≡ g → g ≤ 1 → primitive_row row ≡ row
+    by_divisor zero e h = zeros_divided (row_divisor row) row (subst (λ g. Divides g row) e (row_divisor_is row).0)
+    by_divisor (suc zero) e h = ap (λ g. map (divided g) row) e ∙ divided-one_row row
+    by_divisor (suc (suc g)) e h = absurd (omega arith)
 
 -- ---- what an entry may be
 

@@ -61,6 +61,14 @@ PrimitiveOfProportional = (row other : List ℤ) → IsProportional row other �
 abbrev pub CombinedIsPlain : Type 0
 CombinedIsPlain = (target pivot : List ℤ) (at : ℕ) → pos 0 <ℤ entry pivot at → combined target pivot at ≡ primitive_row (plain_combination target pivot at)
 
+-- the plain combination is a positive multiple of what the target becomes
+abbrev pub CombinedKeepsDirection : Type 0
+CombinedKeepsDirection = (target pivot : List ℤ) (at : ℕ) → pos 0 <ℤ entry pivot at → IsPositiveMultiple (plain_combination target pivot at) (combined target pivot at)
+
+-- where the combination passes nowhere, its entries fit
+abbrev pub CombinedFits : Type 0
+CombinedFits = (target pivot : List ℤ) (at : ℕ) → length target ≡ length pivot → PassesNowhere target pivot at → All FitsEntry (combined target pivot at)
+
 -- to combine kept forms gives the kept form of the plain rows' plain combination
 abbrev pub CombinedOfKeptForms : Type 0
 CombinedOfKeptForms = (target pivot : List ℤ) (at : ℕ) → pos 0 <ℤ entry pivot at → combined (primitive_row target) (primitive_row pivot) at ≡ primitive_row (plain_combination target pivot at)

@@ -7,7 +7,7 @@
 // - `combination_law`: to combine primitives gives the primitive of the plain combination.
 #![tactic(auto)]
 
-ghost use Rattle.row_definitions.specs.Laws.{DivisorDivides, DivisorIsGreatest, RowIsMultipleOfPrimitive, ZeroRowStays, PrimitiveKeepsDirection, MultipleKeepsSigns, PrimitiveStays, UnitEntryIsPrimitive, PrimitiveFits, PrimitiveOfMultiple, PrimitiveOfProportional, CombinedIsPlain, CombinedOfKeptForms, CombinedIsZeroThere, ZeroThereStays, ZeroThereFits};
+ghost use Rattle.row_definitions.specs.Laws.{DivisorDivides, DivisorIsGreatest, RowIsMultipleOfPrimitive, ZeroRowStays, PrimitiveKeepsDirection, MultipleKeepsSigns, PrimitiveStays, UnitEntryIsPrimitive, PrimitiveFits, PrimitiveOfMultiple, PrimitiveOfProportional, CombinedIsPlain, CombinedOfKeptForms, CombinedKeepsDirection, CombinedFits, CombinedIsZeroThere, ZeroThereStays, ZeroThereFits};
 
 /// The divisor of a row is the greatest common divisor of its entries.
 pub fn divisor_law()
@@ -34,6 +34,8 @@ pub fn primitive_law()
 pub fn combination_law()
     ensures entries_divided_first { CombinedIsPlain }
     ensures kept_forms { CombinedOfKeptForms }
+    ensures direction { CombinedKeepsDirection }
+    ensures fits { CombinedFits }
     ensures zero_there { CombinedIsZeroThere }
     ensures zero_there_stays { ZeroThereStays }
     ensures zero_there_fits { ZeroThereFits }
