@@ -13,6 +13,7 @@ mod program;
 mod row;
 mod tableau;
 
+pub use pivot::Passed2;
 pub use program::{MOST_COLUMNS, MOST_ROWS, Program};
 pub use tableau::Tableau;
 

@@ -1,0 +1,84 @@
+ghost use Rattle.std.specs.Prelude.{◌≡◌, ◌≢◌, ℕ, ◌<◌, ◌^◌, [], length, map, slice_index_or, pos, ◌<ℤ◌, OnOk, OnErr, IfErr, IfSome, IfNone, unsigned_abs};
+ghost use Rattle.std.specs.List.{All};
+ghost use Rattle.row_definitions.specs.Combination.{FitsEntry, PassesNowhere, combined};
+ghost use Rattle.pivot_definitions.specs.Tableaus.{SimplexTableau, column_count, row_at, entry_at, others_combined, IsKeptPivot, PivotFits, PivotPassesFirst};
+ghost use Rattle.fraction_tableau.specs.Combinable.{Combinable};
+
+use crate::row::Row;
+use crate::tableau::Tableau;
+
+/// A pivot passed 128 bits: in this row, the objective row being the last, and in this column.
+#[derive(Clone, Copy, Debug, PartialEq, Eq)]
+pub struct Passed2 {
+    pub row: u32,
+    pub column: u32,
+}
+
+impl Tableau {
+    /// Makes a column basic in a row of the program: every other row becomes 0 in the column. The row's entry there is
+    /// above 0. Where a number would pass 128 bits, the first place is answered, rows rising with the objective row last,
+    /// and the tableau stays as it was. Takes no memory.
+    pub fn pivot(&mut self, row: u32, column: u32) -> Result<(), Passed2>
+        requires row { row < length self.old.basis }
+        requires column { column < column_count self.old }
+        requires positive { pos 0 <ℤ entry_at self.old row column }
+
+        ensures ok { OnOk result (IsKeptPivot self.old row column self.new) }
+        ensures fits { OnOk result (PivotFits self.old row column) }
+
+        ensures passes_first { IfErr result (λ place. PivotPassesFirst self.old row column place.row place.column) }
+        ensures unchanged { OnErr result (self.new ≡ self.old) }
+    {
+        if let Some(place) = self.first_passing(row as usize, column as usize) {
+            return Err(place);
+        }
+        combine_others(&mut self.rows, row as usize, column as usize);
+        self.basis[row as usize] = column;
+        Ok(())
+    }
+
+    // The first place where the pivot passes 128 bits.
+    fn first_passing(&self, row: usize, column: usize) -> Option<Passed2>
+        requires row { row < length self.now.basis }
+        requires column { column < column_count self.now }
+        requires positive { pos 0 <ℤ entry_at self.now row column }
+        ensures first { IfSome result (λ place. PivotPassesFirst self.now row column place.row place.column) }
+        ensures nowhere { IfNone result (PivotFits self.now row column) }
+    {
+        let pivot = &self.rows[row];
+        for (other, target) in self.rows.iter().enumerate() {
+            if other == row {
+                continue;
+            }
+            if let Some(at) = target.first_passing(pivot, column) {
+                return Some(Passed2 {
+                    row: other as u32,
+                    column: at,
+                });
+            }
+        }
+        None
+    }
+}
+
+// Combines each row but one with that one.
+fn combine_others(rows: &mut [Row], row: usize, column: usize)
+    requires within { row < length rows.old }
+    requires combinable { (other : ℕ) → other < length rows.old → other ≢ row → Combinable (slice_index_or rows.old other []) (slice_index_or rows.old row []) column × PassesNowhere (slice_index_or rows.old other []) (slice_index_or rows.old row []) column }
+    ensures { rows.new ≡ others_combined (λ target. combined target (slice_index_or rows.old row []) column) rows.old row }
+{
+    let (before, rest) = rows.split_at_mut(row);
+    let (pivot, after) = rest.split_at_mut(1);
+    combine_each(before, &pivot[0], column);
+    combine_each(after, &pivot[0], column);
+}
+
+// Combines each row with the pivot row.
+fn combine_each(rows: &mut [Row], pivot: &Row, column: usize)
+    requires { All (λ target. Combinable target pivot.now column × PassesNowhere target pivot.now column) rows.old }
+    ensures { rows.new ≡ map (λ target. combined target pivot.now column) rows.old }
+{
+    for target in rows.iter_mut() {
+        target.combine(pivot, column);
+    }
+}

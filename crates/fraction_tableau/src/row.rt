@@ -2,8 +2,8 @@ ghost use Rattle.std.specs.Prelude.{◌≡◌, ◌≢◌, ℕ, ◌+◌, ◌-◌,
 ghost use Rattle.std.specs.List.{All};
 ghost use Rattle.row_definitions.specs.Rows.{entry};
 ghost use Rattle.row_definitions.specs.Combination.{FitsEntry, combined, PassesNowhere, PassesFirst};
-ghost use Rattle.pivot_definitions.specs.Programs.{unit_row, coefficient_row};
 ghost use Rattle.pivot_definitions.specs.Tableaus.{built_row, built_objective};
+ghost use Rattle.fraction_tableau.specs.Combinable.{Combinable};
 
 use crate::program::Program;
 use scan_types::WantOfMemory;
@@ -55,6 +55,31 @@ impl Row {
         ensures { result.now ≡ self.now }
     {
         self.entries.as_slice()
+    }
+
+    // The first column in which the combination with the pivot row passes 128 bits. A row that is 0 in the column stays as
+    // it is, and passes nowhere.
+    pub(crate) fn first_passing(&self, pivot: &Row, column: usize) -> Option<u32>
+        requires { Combinable self.now pivot.now column }
+        ensures first { IfSome result (PassesFirst self.now pivot.now column) }
+        ensures nowhere { IfNone result (PassesNowhere self.now pivot.now column) }
+    {
+        if self.entries[column] == 0 {
+            return None;
+        }
+        fraction_rows::first_passing(self.entries(), pivot.entries(), column)
+    }
+
+    // Makes the row 0 in the column by the combination with the pivot row.
+    pub(crate) fn combine(&mut self, pivot: &Row, column: usize)
+        requires combinable { Combinable self.old pivot.now column }
+        requires passes_nowhere { PassesNowhere self.old pivot.now column }
+        ensures value { self.new ≡ combined self.old pivot.now column }
+        ensures fits { All FitsEntry self.new }
+    {
+        if self.entries[column] != 0 {
+            fraction_rows::combine_within(self.entries.as_mut_slice(), pivot.entries(), column);
+        }
     }
 }
 

@@ -1,7 +1,7 @@
 ghost use Rattle.std.specs.Prelude.{◌≡◌, ℕ, ◌+◌, ◌<◌, ◌≤◌, ◌^◌, length, ◌==◌, IfOk, IfSome, pos, unsigned_abs, slice_index, position};
 ghost use Rattle.std.specs.List.{All};
 ghost use Rattle.row_definitions.specs.Combination.{FitsEntry};
-ghost use Rattle.pivot_definitions.specs.Tableaus.{IsTableau, HasFittingEntries, column_count, row_at, entry_at, right_side, objective, basic_column, multiplier_of, IsValueOf, built};
+ghost use Rattle.pivot_definitions.specs.Tableaus.{IsKeptTableau, column_count, row_at, entry_at, right_side, objective, basic_column, multiplier_of, IsValueOf, built};
 
 use crate::program::Program;
 use crate::row::Row;
@@ -19,14 +19,13 @@ pub struct Tableau {
 }
 
 impl Model for Tableau {
-    ghost use Rattle.std.specs.Prelude.{◌≤◌, length};
-    ghost use Rattle.pivot_definitions.specs.Tableaus.{SimplexTableau, IsTableau, HasFittingEntries};
+    ghost use Rattle.pivot_definitions.specs.Tableaus.{SimplexTableau, IsKeptTableau};
 
     ghost Value = { SimplexTableau };
 
     ghost view = { λ t. record { columns = t.columns; rows = t.rows.items; basis = t.basis.items } };
 
-    ghost invariant = { λ t. (t.columns ≤ 2048) × (length t.basis.items ≤ 2048) × IsTableau (record { columns = t.columns; rows = t.rows.items; basis = t.basis.items }) × HasFittingEntries (record { columns = t.columns; rows = t.rows.items; basis = t.basis.items }) };
+    ghost invariant = { λ t. IsKeptTableau (record { columns = t.columns; rows = t.rows.items; basis = t.basis.items }) };
 }
 
 impl Tableau {
@@ -62,8 +61,7 @@ impl Tableau {
     pub fn rows(&self) -> u32
         ensures value { result ≡ length self.now.basis }
         ensures few { result ≤ 2048 }
-        ensures tableau { IsTableau self.now }
-        ensures fits { HasFittingEntries self.now }
+        ensures kept { IsKeptTableau self.now }
     {
         self.basis.len() as u32
     }
@@ -120,8 +118,7 @@ impl Tableau {
     fn row_of(&self, column: u32) -> Option<usize>
         ensures value { result ≡ position (λ basic. basic == column) self.now.basis }
         ensures within { IfSome result (λ row. row < length self.now.basis) }
-        ensures few { length self.now.basis ≤ 2048 }
-        ensures tableau { IsTableau self.now }
+        ensures kept { IsKeptTableau self.now }
     {
         self.basis.iter().position(|basic| *basic == column)
     }

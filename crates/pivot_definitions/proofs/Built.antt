@@ -4,11 +4,13 @@ use Rattle.std.specs.List.{All, range_with_len}
 use Rattle.std.proofs.lemmas.List.{length-append, length-map, length-replicate, length-take-le, length-drop, map-id}
 use Rattle.std.proofs.lemmas.List.Elements.{All-append, All-cons, All-nil, All-map, All-replicate, All-take, All-drop, All-get_or, All-from_get_or}
 use Rattle.std.proofs.lemmas.List.FromFn.{length-map-range_with_len, get_or-map-range_with_len, map-range_with_len_more}
-use lib.IntN.{ℤ, pos}
-use Rattle.row_definitions.specs.Rows.{entry}
+use lib.IntN.{ℤ, pos, nat_abs as unsigned_abs}
+use Rattle.std.proofs.lemmas.List.{get_or_at, get_or_append_left, get_or-append_right}
+use Rattle.row_definitions.specs.Rows.{entry, primitive_row}
+use Rattle.row_definitions.proofs.Primitives.{primitive_row-unit}
 use Rattle.row_definitions.specs.Combination.{FitsEntry}
 use Rattle.pivot_definitions.specs.Programs.{LinearProgram, IsProgram, FitsEntries, coefficient_row, unit_row}
-use Rattle.pivot_definitions.specs.Tableaus.{SimplexTableau, IsTableau, HasFittingEntries, built, built_row, built_objective, column_count}
+use Rattle.pivot_definitions.specs.Tableaus.{SimplexTableau, IsTableau, HasFittingEntries, HasPrimitiveRows, IsKeptTableau, built, built_row, built_objective, column_count}
 
 pub length-range : (a n : ℕ) → length (range_with_len a n) ≡ n
 length-range a zero = refl
@@ -46,6 +48,16 @@ built-IsTableau program is =
       basic_columns = All-range (λ column. column < column_count (built program)) program.columns program.rows (λ k low high. omega (arith, count));
     }
 
+pub unit_here : (width column : ℕ) → entry (unit_row width column) column ≡ pos 1
+unit_here width column = get_or_at (replicate column (pos 0)) (pos 1) (replicate (width - 1 - column) (pos 0)) (pos 0) column (length-replicate column (pos 0))
+
+-- a slack entry of a row as built
+pub built_slack : (program : LinearProgram) → IsProgram program → (i j : ℕ) → i < program.rows → j < program.rows → entry (built_row program i) (program.columns + j) ≡ entry (unit_row program.rows i) j
+built_slack program is i j row column =
+    get_or_append_left (coefficient_row program i ++ unit_row program.rows i) (entry program.right_sides i ∷ []) (pos 0) (program.columns + j) (omega (arith, length-append (coefficient_row program i) (unit_row program.rows i), length-coefficients program is i row, length-unit program.rows i row))
+    ∙ get_or-append_right (coefficient_row program i) (unit_row program.rows i) program.columns (program.columns + j) (pos 0) (length-coefficients program is i row) (omega arith)
+    ∙ ap (entry (unit_row program.rows i)) (let e : program.columns + j - program.columns ≡ j = omega arith in e)
+
 fits_unit : (width column : ℕ) → All FitsEntry (unit_row width column)
 fits_unit width column = All-append FitsEntry (replicate column (pos 0)) (pos 1 ∷ replicate (width - 1 - column) (pos 0)) (All-replicate FitsEntry column (pos 0) (lit< tt)) (All-cons FitsEntry (pos 1) (replicate (width - 1 - column) (pos 0)) (lit< tt) (All-replicate FitsEntry (width - 1 - column) (pos 0) (lit< tt)))
 
@@ -69,18 +81,19 @@ rows_more program n last before is = last ∙ ap₂ (λ xs x. xs ++ x ∷ []) be
 pub basis_more : (a n : ℕ) {pushed basis : List ℕ} {x : ℕ} → pushed ≡ basis ++ x ∷ [] → basis ≡ range_with_len a n → x ≡ a + n → pushed ≡ range_with_len a (n + 1)
 basis_more a n last before is = last ∙ ap₂ (λ xs x. xs ++ x ∷ []) before is ∙ sym (range_more a n)
 
--- what is known of a tableau whose parts are those of the tableau as built
-pub record BuiltFacts (tableau : SimplexTableau) : Type 0 where
-  pub tableau_holds : IsTableau tableau
-  pub fits : HasFittingEntries tableau
-  pub few_rows : length tableau.basis ≤ 2048
+pub built-HasPrimitiveRows : (program : LinearProgram) → IsProgram program → HasPrimitiveRows (built program)
+built-HasPrimitiveRows program is = All-append (λ row. primitive_row row ≡ row) (map (built_row program) (range_with_len 0 program.rows)) (built_objective program ∷ [])
+    (All-map (λ row. primitive_row row ≡ row) (built_row program) (range_with_len 0 program.rows) (All-range (λ k. primitive_row (built_row program k) ≡ built_row program k) 0 program.rows
+      (λ k low high. primitive_row-unit (built_row program k) (program.columns + k) (ap unsigned_abs (built_slack program is k k (omega arith) (omega arith) ∙ unit_here program.rows k)))))
+    (All-cons (λ row. primitive_row row ≡ row) (built_objective program) [] (primitive_row-unit (built_objective program) 0 refl) (All-nil _))
 
-pub built_facts : (program : LinearProgram) → IsProgram program → FitsEntries program → program.rows ≤ 2048 → (columns n : ℕ) (rows all : List (List ℤ)) (last : List ℤ) (basis : List ℕ)
+-- a tableau whose parts are those of the tableau as built
+pub built_facts : (program : LinearProgram) → IsProgram program → FitsEntries program → program.columns ≤ 2048 → program.rows ≤ 2048 → (columns n : ℕ) (rows all : List (List ℤ)) (last : List ℤ) (basis : List ℕ)
   → columns ≡ program.columns → n ≡ program.rows → all ≡ rows ++ last ∷ [] → rows ≡ map (built_row program) (range_with_len 0 n) → last ≡ built_objective program → basis ≡ range_with_len columns n
-  → BuiltFacts (record { columns = columns; rows = all; basis = basis })
-built_facts program is fits few columns n rows all last basis columns_is n_is all_is rows_is last_is basis_is =
+  → IsKeptTableau (record { columns = columns; rows = all; basis = basis })
+built_facts program is fits few_columns few columns n rows all last basis columns_is n_is all_is rows_is last_is basis_is =
     let same_rows : all ≡ (built program).rows = all_is ∙ ap₂ (λ xs x. xs ++ x ∷ []) (rows_is ∙ ap (λ k. map (built_row program) (range_with_len 0 k)) n_is) last_is in
     let same_basis : basis ≡ (built program).basis = basis_is ∙ ap₂ (λ a k. range_with_len a k) columns_is n_is in
     let whole : built program ≡ record { columns = columns; rows = all; basis = basis } = sym (ap₂ (λ xs bs. record { columns = columns; rows = xs; basis = bs }) same_rows same_basis ∙ ap (λ k. record { columns = k; rows = (built program).rows; basis = (built program).basis }) columns_is) in
-    let facts : BuiltFacts (built program) = record { tableau_holds = built-IsTableau program is; fits = built-HasFittingEntries program is fits; few_rows = omega (arith, length-range program.columns program.rows) } in
-    subst BuiltFacts whole facts
+    let facts : IsKeptTableau (built program) = record { few_columns = few_columns; shape = built-IsTableau program is; fits = built-HasFittingEntries program is fits; primitive = built-HasPrimitiveRows program is; few_rows = omega (arith, length-range program.columns program.rows) } in
+    subst IsKeptTableau whole facts

@@ -13,7 +13,7 @@ use Rattle.pivot_definitions.proofs.Ring.{by_eq, dif_is, difs, dif_same, linear}
 use Rattle.pivot_definitions.proofs.Pivots.{PivotFacts, pivot_facts}
 use Rattle.pivot_definitions.proofs.Feasible.{canonical_step, right_side_step}
 use Rattle.pivot_definitions.proofs.Built.{length-range}
-use Rattle.pivot_definitions.proofs.Start.{built_feasible, row_built, objective_built, basic_built, cap_facts, unit_facts, unit_here}
+use Rattle.pivot_definitions.proofs.Start.{built_feasible, row_built, objective_built, basic_built, cap_facts, unit_facts}
 use Rattle.pivot_definitions.proofs.Level.{Level, level_step, level_bounded, CapFacts, UnitFacts}
 
 one_times : (x y : ℤ) → pos 1 *ℤ x ≡ pos 1 *ℤ x +ℤ pos 0 *ℤ y

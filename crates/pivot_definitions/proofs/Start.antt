@@ -12,16 +12,13 @@ use Rattle.pivot_definitions.specs.Tableaus.{SimplexTableau, IsTableau, row_at, 
 use Rattle.pivot_definitions.specs.Feasible.{IsCanonical, HasNoNegativeRightSide, IsFeasible}
 use borrow.Author.Differences.{same_out}
 use Rattle.pivot_definitions.proofs.Ring.{by_eq, linear}
-use Rattle.pivot_definitions.proofs.Built.{length-range, length-unit, length-coefficients, built-IsTableau}
+use Rattle.pivot_definitions.proofs.Built.{length-range, length-unit, length-coefficients, built-IsTableau, unit_here, built_slack}
 use Rattle.pivot_definitions.proofs.Level.{CapFacts, UnitFacts}
 
 zeros : (n k : ℕ) → entry (replicate n (pos 0)) k ≡ pos 0
 zeros zero k = refl
 zeros (suc n) zero = refl
 zeros (suc n) (suc k) = zeros n k
-
-pub unit_here : (width column : ℕ) → entry (unit_row width column) column ≡ pos 1
-unit_here width column = get_or_at (replicate column (pos 0)) (pos 1) (replicate (width - 1 - column) (pos 0)) (pos 0) column (length-replicate column (pos 0))
 
 after_one : (n k : ℕ) → k ≢ 0 → entry (pos 1 ∷ replicate n (pos 0)) k ≡ pos 0
 after_one n zero h = absurd (h refl)
@@ -41,13 +38,6 @@ pub built_coefficient : (program : LinearProgram) → IsProgram program → (i k
 built_coefficient program is i k row column =
     get_or_append_left (coefficient_row program i ++ unit_row program.rows i) (entry program.right_sides i ∷ []) (pos 0) k (omega (arith, length-append (coefficient_row program i) (unit_row program.rows i), length-coefficients program is i row))
     ∙ get_or_append_left (coefficient_row program i) (unit_row program.rows i) (pos 0) k (omega (arith, length-coefficients program is i row))
-
--- a slack entry of a row as built
-pub built_slack : (program : LinearProgram) → IsProgram program → (i j : ℕ) → i < program.rows → j < program.rows → entry (built_row program i) (program.columns + j) ≡ entry (unit_row program.rows i) j
-built_slack program is i j row column =
-    get_or_append_left (coefficient_row program i ++ unit_row program.rows i) (entry program.right_sides i ∷ []) (pos 0) (program.columns + j) (omega (arith, length-append (coefficient_row program i) (unit_row program.rows i), length-coefficients program is i row, length-unit program.rows i row))
-    ∙ get_or-append_right (coefficient_row program i) (unit_row program.rows i) program.columns (program.columns + j) (pos 0) (length-coefficients program is i row) (omega arith)
-    ∙ ap (entry (unit_row program.rows i)) (let e : program.columns + j - program.columns ≡ j = omega arith in e)
 
 -- the right side of a row as built
 pub built_right_side : (program : LinearProgram) → IsProgram program → (i : ℕ) → i < program.rows → entry (built_row program i) (program.columns + program.rows) ≡ entry program.right_sides i

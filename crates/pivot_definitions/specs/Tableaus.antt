@@ -1,5 +1,5 @@
 -- The simplex tableau of a program, over whole numbers without bound, and its pivots, in which nothing is divided.
-use Rattle.std.specs.Prelude.{◌≡◌, ◌≢◌, ℕ, suc, ◌+◌, ◌-◌, ◌<◌, ◌==◌, List, [], ◌∷◌, ◌++◌, length, map, take, drop, replicate, slice_index, slice_index_or, slice_set, position, MatchOption, ℤ, pos, neg_ℤ, ◌≤ℤ◌}
+use Rattle.std.specs.Prelude.{◌≡◌, ◌≢◌, ℕ, suc, ◌+◌, ◌-◌, ◌<◌, ◌≤◌, ◌==◌, List, [], ◌∷◌, ◌++◌, length, map, take, drop, replicate, slice_index, slice_index_or, slice_set, position, MatchOption, ℤ, pos, neg_ℤ, ◌≤ℤ◌}
 use Rattle.std.specs.List.{All, range_with_len}
 use Rattle.row_definitions.specs.Rows.{entry, primitive_row}
 use Rattle.row_definitions.specs.Combination.{FitsEntry, plain_combination, combined, PassesNowhere, PassesFirst}
@@ -53,6 +53,18 @@ pub record IsTableau (tableau : SimplexTableau) : Type 0 where
 abbrev pub HasFittingEntries : SimplexTableau → Type 0
 HasFittingEntries tableau = All (λ row. All FitsEntry row) tableau.rows
 
+-- each row is its own kept form
+abbrev pub HasPrimitiveRows : SimplexTableau → Type 0
+HasPrimitiveRows tableau = All (λ row. primitive_row row ≡ row) tableau.rows
+
+-- a tableau of at most 2,048 columns and rows, in kept form and with entries that fit
+pub record IsKeptTableau (tableau : SimplexTableau) : Type 0 where
+  pub few_columns : tableau.columns ≤ 2048
+  pub few_rows : length tableau.basis ≤ 2048
+  pub shape : IsTableau tableau
+  pub fits : HasFittingEntries tableau
+  pub primitive : HasPrimitiveRows tableau
+
 -- constraint row `row` as built: the coefficients, 1 in the row's slack column and 0 in the others, and the right side
 abbrev pub built_row : LinearProgram → ℕ → List ℤ
 built_row program row = coefficient_row program row ++ unit_row program.rows row ++ entry program.right_sides row ∷ []
@@ -84,6 +96,10 @@ plain_pivot tableau row column = record {
 -- the kept form: each row divided by the greatest common divisor of its entries
 abbrev pub kept : SimplexTableau → SimplexTableau
 kept plain = record { columns = plain.columns; rows = map primitive_row plain.rows; basis = plain.basis }
+
+-- whatever plain tableau the one is the kept form of, the other is the kept form of its plain pivot
+abbrev pub IsKeptPivot : SimplexTableau → ℕ → ℕ → SimplexTableau → Type 0
+IsKeptPivot before row column after = (plain : SimplexTableau) → kept plain ≡ before → after ≡ kept (plain_pivot plain row column)
 
 -- in a pivot of a kept form no product and no difference passes 128 bits
 abbrev pub PivotFits : SimplexTableau → ℕ → ℕ → Type 0

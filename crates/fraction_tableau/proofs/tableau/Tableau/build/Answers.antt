@@ -15,5 +15,5 @@ invariant_of-result c =
     let program = c.args.program.now in
     let whole : c.loop-row.row ≡ program.rows = omega arith in
     let few : program.rows ≤ 2048 = omega arith in
-    let facts = built_facts program c.columns-columns.ensures.program c.columns-columns.ensures.fits few c.columns-columns.result c.loop-row.row _ _ _ _ c.columns-columns.ensures.value whole c.in_ok-push-3.ensures.items c.loop-row.invariant.rows c.in_ok-objective.ensures c.loop-row.invariant.basis in
-    (c.columns-columns.ensures.few, facts.few_rows, facts.tableau_holds, facts.fits)
+    let few_columns : program.columns ≤ 2048 = omega arith in
+    built_facts program c.columns-columns.ensures.program c.columns-columns.ensures.fits few_columns few c.columns-columns.result c.loop-row.row _ _ _ _ c.columns-columns.ensures.value whole c.in_ok-push-3.ensures.items c.loop-row.invariant.rows c.in_ok-objective.ensures c.loop-row.invariant.basis
