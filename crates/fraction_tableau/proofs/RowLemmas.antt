@@ -1,0 +1,56 @@
+-- Rows of a tableau in the loops of a pivot.
+use Rattle.std.proofs.Common.{◌≡◌, ◌≢◌, ℕ, zero, suc, ◌+◌, ◌-◌, ◌<◌, ◌≤◌, ◌^◌, List, [], ◌∷◌, ◌++◌, map, length, get_or, set, take, drop, refl, sym, ap, ap₂, ◌∙◌, subst, arith, of_z}
+use Rattle.std.specs.List.{All}
+use Rattle.std.specs.Int.{w128}
+use Rattle.std.proofs.lemmas.List.{length-append, length-map, length-take-le, get_or_default, get_or_at, set_at, drop_more, map_more, append_assoc, get_or-take, get_or-drop, drop-drop}
+use lib.IntN.{ℤ, pos, negsuc, nat_abs as unsigned_abs}
+use Rattle.row_definitions.specs.Rows.{entry}
+use Rattle.row_definitions.specs.Combination.{FitsEntry}
+use Rattle.pivot_definitions.specs.Tableaus.{others_combined}
+
+-- an entry whose bits are 0 is 0
+zero_of_bits : (x : ℤ) → FitsEntry x → of_z w128 x ≡ 0 → x ≡ pos 0
+zero_of_bits (pos n) fits e = ap pos e
+zero_of_bits (negsuc n) fits e = absurd (omega arith)
+
+pub zero_entry : (row : List ℤ) (k : ℕ) (x : ℤ) → All FitsEntry row → k < length row → x ≡ get_or row k x → of_z w128 x ≡ 0 → entry row k ≡ pos 0
+zero_entry row k x fits within is bits = get_or_default row k (pos 0) x within ∙ sym is ∙ zero_of_bits x (subst FitsEntry (sym is) (fits k x within)) bits
+
+-- the step of a loop that maps the rows in place
+pub map_step : (f : List ℤ → List ℤ) (rows now : List (List ℤ)) (i : ℕ) (x new : List ℤ) → now ≡ map f (take i rows) ++ drop i rows → i < length rows → new ≡ f (get_or now i x) → set now i new ≡ map f (take (i + 1) rows) ++ drop (i + 1) rows
+map_step f rows now i x new now_is within new_is =
+    let split : now ≡ map f (take i rows) ++ get_or rows i x ∷ drop (i + 1) rows = now_is ∙ ap (λ ys. map f (take i rows) ++ ys) (drop_more rows i x within) in
+    let count : length (map f (take i rows)) ≡ i = length-map (take i rows) f ∙ length-take-le i rows (omega arith) in
+    let read : get_or now i x ≡ get_or rows i x = ap (λ ys. get_or ys i x) split ∙ get_or_at (map f (take i rows)) (get_or rows i x) (drop (i + 1) rows) x i count in
+    ap (λ ys. set ys i new) split ∙ set_at (map f (take i rows)) (get_or rows i x) (drop (i + 1) rows) new i count
+    ∙ ap (λ y. map f (take i rows) ++ y ∷ drop (i + 1) rows) (new_is ∙ ap f read)
+    ∙ sym (append_assoc (map f (take i rows)) (f (get_or rows i x) ∷ []) (drop (i + 1) rows))
+    ∙ ap (λ ys. ys ++ drop (i + 1) rows) (sym (map_more f rows i x within))
+
+-- the parts of the rows before, at and after the pivot row
+pub rest_is : (rows : List (List ℤ)) (p : ℕ) → p < length rows → drop p rows ≡ get_or rows p [] ∷ drop (suc p) rows
+rest_is rows p within = drop_more rows p [] within ∙ ap (λ n. get_or rows p [] ∷ drop n rows) (let e : p + 1 ≡ suc p = omega arith in e)
+
+pub pivot_is : (rows rest at : List (List ℤ)) (p : ℕ) (d : List ℤ) → rest ≡ drop p rows → at ≡ take 1 rest → p < length rows → get_or at 0 d ≡ get_or rows p []
+pivot_is rows rest at p d rest_drop at_take within = ap (λ xs. get_or xs 0 d) (at_take ∙ ap (take 1) (rest_drop ∙ rest_is rows p within))
+
+pub before_is : (rows before : List (List ℤ)) (p k : ℕ) (d : List ℤ) → before ≡ take p rows → p < length rows → k < length before → get_or before k d ≡ get_or rows k []
+before_is rows before p k d is within below =
+    let count : length before ≡ p = ap length is ∙ length-take-le p rows (omega arith) in
+    ap (λ xs. get_or xs k d) is ∙ get_or-take p rows k d (omega arith) ∙ get_or_default rows k d [] (omega arith)
+
+pub after_is : (rows rest after : List (List ℤ)) (p : ℕ) → rest ≡ drop p rows → after ≡ drop 1 rest → p < length rows → after ≡ drop (suc p) rows
+after_is rows rest after p rest_drop after_drop within = after_drop ∙ ap (drop 1) (rest_drop ∙ rest_is rows p within)
+
+pub after_at : (rows after : List (List ℤ)) (p k : ℕ) (d : List ℤ) → after ≡ drop (suc p) rows → suc p + k < length rows → get_or after k d ≡ get_or rows (suc p + k) []
+after_at rows after p k d is within = ap (λ xs. get_or xs k d) is ∙ get_or-drop (suc p) rows k d ∙ get_or_default rows (suc p + k) d [] within
+
+pub joined : (f : List ℤ → List ℤ) (rows before rest at after : List (List ℤ)) (p : ℕ) → before ≡ take p rows → rest ≡ drop p rows → at ≡ take 1 rest → after ≡ drop 1 rest → p < length rows
+  → (new_before new_after : List (List ℤ)) → new_before ≡ map f before → new_after ≡ map f after → new_before ++ (at ++ new_after) ≡ others_combined f rows p
+joined f rows before rest at after p before_take rest_drop at_take after_drop within new_before new_after before_new after_new =
+    let at_one : at ≡ get_or rows p [] ∷ [] = at_take ∙ ap (take 1) (rest_drop ∙ rest_is rows p within) in
+    ap₂ (λ xs ys. xs ++ ys) (before_new ∙ ap (map f) before_take) (ap₂ (λ xs ys. xs ++ ys) at_one (after_new ∙ ap (map f) (after_is rows rest after p rest_drop after_drop within)))
+
+-- a fact of two rows at rows that are equal to them
+pub moved : (P : List ℤ → List ℤ → Type 0) (x y a b : List ℤ) → x ≡ a → y ≡ b → P a b → P x y
+moved P x y a b x_is y_is h = subst (λ z. P z y) (sym x_is) (subst (λ z. P a z) (sym y_is) h)
