@@ -2,11 +2,16 @@
 use Rattle.std.proofs.Common.{◌≡◌, ◌≢◌, ℕ, zero, suc, ◌+◌, ◌-◌, ◌<◌, ◌≤◌, ◌^◌, List, [], ◌∷◌, ◌++◌, map, length, get_or, set, take, drop, refl, sym, ap, ap₂, ◌∙◌, subst, arith, of_z}
 use Rattle.std.specs.List.{All}
 use Rattle.std.specs.Int.{w128}
-use Rattle.std.proofs.lemmas.List.{length-append, length-map, length-take-le, get_or_default, get_or_at, set_at, drop_more, map_more, append_assoc, get_or-take, get_or-drop, drop-drop}
+use Rattle.std.proofs.lemmas.List.{length-append, length-map, length-take-le, get_or_default, get_or_at, set_at, take_at, drop_more, map_more, append_assoc, get_or-take, get_or-drop, drop-drop}
 use lib.IntN.{ℤ, pos, negsuc, nat_abs as unsigned_abs}
 use Rattle.row_definitions.specs.Rows.{entry}
 use Rattle.row_definitions.specs.Combination.{FitsEntry}
-use Rattle.pivot_definitions.specs.Tableaus.{others_combined}
+use lib.Signed.{◌<ℤ◌}
+use Rattle.row_definitions.specs.Combination.{combined}
+use Rattle.pivot_definitions.specs.Tableaus.{SimplexTableau, IsKeptTableau, IsKeptPivot, PivotFits, entry_at, column_count, others_combined}
+use Rattle.pivot_definitions.specs.Laws.{kept_pivot}
+use Rattle.pivot_definitions.proofs.Pivots.{length-others}
+use Rattle.pivot_definitions.proofs.KeptPivots.{kept_pivot_kept, is_kept_pivot}
 
 -- an entry whose bits are 0 is 0
 zero_of_bits : (x : ℤ) → FitsEntry x → of_z w128 x ≡ 0 → x ≡ pos 0
@@ -54,3 +59,21 @@ joined f rows before rest at after p before_take rest_drop at_take after_drop wi
 -- a fact of two rows at rows that are equal to them
 pub moved : (P : List ℤ → List ℤ → Type 0) (x y a b : List ℤ) → x ≡ a → y ≡ b → P a b → P x y
 moved P x y a b x_is y_is h = subst (λ z. P z y) (sym x_is) (subst (λ z. P a z) (sym y_is) h)
+
+-- the fields after a pivot are the pivot of the kept form
+pub after_pivot : (t : SimplexTableau) (p q len : ℕ) (lent new : List (List ℤ)) → lent ≡ t.rows → len ≡ length t.rows → new ≡ others_combined (λ target. combined target (get_or lent p []) q) lent p → p < length t.rows
+  → record { columns = t.columns; rows = take len (new ++ drop (length new) t.rows); basis = set t.basis p q } ≡ kept_pivot t p q
+after_pivot t p q len lent new lent_is len_is new_is within =
+    let result : new ≡ (kept_pivot t p q).rows = new_is ∙ ap (λ xs. others_combined (λ target. combined target (get_or xs p []) q) xs p) lent_is in
+    let count : length new ≡ len = ap length result ∙ length-others (λ target. combined target (get_or t.rows p []) q) t.rows p within ∙ sym len_is in
+    ap (λ xs. record { columns = t.columns; rows = xs; basis = set t.basis p q }) (take_at new (drop (length new) t.rows) len count ∙ result)
+
+pub kept_after : (t now : SimplexTableau) (p q : ℕ) → t ≡ now → IsKeptTableau t → p < length now.basis → q < column_count now → PivotFits now p q → IsKeptTableau (kept_pivot t p q)
+kept_after t now p q same is row column fits =
+    let there = subst (λ s. (p < length s.basis) × (q < column_count s) × PivotFits s p q) (sym same) (row, column, fits) in
+    kept_pivot_kept t p q is there.0 there.1 there.2
+
+pub pivot_after : (t now : SimplexTableau) (p q : ℕ) → t ≡ now → IsKeptTableau t → p < length now.basis → pos 0 <ℤ entry_at now p q → IsKeptPivot now p q (kept_pivot t p q)
+pivot_after t now p q same is row positive plain plain_is =
+    let there = subst (λ s. (p < length s.basis) × (pos 0 <ℤ entry_at s p q)) (sym same) (row, positive) in
+    is_kept_pivot t p q (omega (arith, is.shape.row_count, there.0)) there.1 plain (plain_is ∙ sym same)

@@ -7,3 +7,4 @@ pub mod Level
 pub mod Start
 pub mod Reached
 pub mod Signs
+pub mod KeptPivots
