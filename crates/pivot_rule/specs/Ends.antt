@@ -1,0 +1,27 @@
+-- How a run ends.
+use Rattle.std.specs.Prelude.{◌≡◌, ℕ}
+use Rattle.pivot_definitions.specs.Programs.{LinearProgram, IsProgram, IsCapped}
+use Rattle.pivot_definitions.specs.Tableaus.{SimplexTableau, built, kept}
+use Rattle.pivot_definitions.specs.Runs.{IsBest, EndsBest, EndsWide, EndsOutOfPivots}
+use Rattle.pivot_rule.specs.declared.bland.RunEnd.{RunEnd}
+use Rattle.pivot_rule.specs.declared.bland.RunEnd.TheVariants.{Best, Wide, OutOfPivots}
+
+-- the tableau is as built of a program whose last row caps column 0
+abbrev pub IsCappedStart : SimplexTableau → Type 0
+IsCappedStart tableau = (program : LinearProgram) × IsProgram program × IsCapped program × (tableau ≡ built program)
+
+-- a run over whole numbers without bound ends so, at this plain tableau
+abbrev pub EndsAs : SimplexTableau → ℕ → RunEnd → SimplexTableau → Type 0
+EndsAs start budget (Best pivots) end = EndsBest start budget pivots end
+EndsAs start budget (Wide pivots row column) end = EndsWide start budget pivots row column end
+EndsAs start budget (OutOfPivots pivots) end = EndsOutOfPivots start budget pivots end
+
+-- the run ends so, and leaves the kept form of the plain tableau at its end
+abbrev pub RunEndsAs : SimplexTableau → ℕ → RunEnd → SimplexTableau → Type 0
+RunEndsAs start budget end left = (plain : SimplexTableau) × (left ≡ kept plain) × EndsAs start budget end plain
+
+-- where the run ends at its best, no entry of the objective row but the right side's is above 0
+abbrev pub BestIsBest : RunEnd → SimplexTableau → Type 0
+BestIsBest (Best pivots) left = IsBest left
+BestIsBest (Wide pivots row column) left = Unit {0}
+BestIsBest (OutOfPivots pivots) left = Unit {0}
