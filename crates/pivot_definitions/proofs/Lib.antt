@@ -8,3 +8,5 @@ pub mod Start
 pub mod Reached
 pub mod Signs
 pub mod KeptPivots
+pub mod Sums
+pub mod Duality
