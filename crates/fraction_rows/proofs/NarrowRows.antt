@@ -1,11 +1,11 @@
 -- A combination of rows whose numbers fit 64 bits passes nowhere.
-use Rattle.std.proofs.Common.{◌≡◌, ℕ, ◌+◌, ◌*◌, ◌<◌, ◌≤◌, ◌^◌, List, length, ℤ, pos, negsuc, ◌-ℤ◌, ◌*ℤ◌, unsigned_abs, All, subst, sym, ap, inl, inr, arith, lit<, mul-le-mul, lt_of_le_of_lt}
+use Rattle.std.proofs.Common.{ℕ, ◌+◌, ◌*◌, ◌<◌, ◌≤◌, ◌^◌, List, length, ℤ, pos, ◌-ℤ◌, ◌*ℤ◌, unsigned_abs, All, subst, sym, inl, inr, arith, lit<, mul-le-mul, lt_of_le_of_lt}
 use Rattle.std.proofs.lemmas.Bool.{cases_lt}
 use Rattle.std.proofs.lemmas.Int.{ints, unsigned_abs-mul}
 use Rattle.std.proofs.lemmas.List.{get_or_past}
 use Rattle.std.proofs.lemmas.List.Elements.{All-get_or}
 use Rattle.row_definitions.specs.Rows.{entry}
-use Rattle.row_definitions.specs.Combination.{FitsEntry, ProductsFit, PassesNowhere, column_divisor, target_factor, pivot_factor}
+use Rattle.row_definitions.specs.Combination.{ProductsFit, PassesNowhere, column_divisor, target_factor, pivot_factor}
 use Rattle.row_definitions.proofs.Numbers.{unsigned_abs-divided-le}
 use Rattle.fraction_rows.specs.Narrow.{IsNarrow}
 

@@ -135,17 +135,12 @@ fn fitting_entry(target: i128, pivot: i128, factors: Factors) -> i128
 fn product(a: i128, b: i128) -> Option<i128>
     ensures { SomeIff result (FitsEntry (a *ℤ b)) (a *ℤ b) }
 {
-    match a.checked_mul(b) {
-        Some(i128::MIN) => None,
-        product => product,
-    }
+    a.checked_mul(b).filter(|product| *product != i128::MIN)
 }
 
 fn difference(a: i128, b: i128) -> Option<i128>
     ensures { SomeIff result (FitsEntry (a -ℤ b)) (a -ℤ b) }
 {
-    match a.checked_sub(b) {
-        Some(i128::MIN) => None,
-        difference => difference,
-    }
+    a.checked_sub(b)
+        .filter(|difference| *difference != i128::MIN)
 }
