@@ -1,3 +1,4 @@
 pub mod Columns
+pub mod NarrowRows
 pub mod Scan
 pub mod Written

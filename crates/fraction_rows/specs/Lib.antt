@@ -1,1 +1,1 @@
--- This crate has no definitions of its own: its contracts cite those of row_definitions.
+pub mod Narrow

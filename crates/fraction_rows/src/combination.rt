@@ -6,6 +6,7 @@ ghost use Rattle.row_definitions.specs.Combination.{FitsEntry, ProductsFit, Pass
 
 use crate::division::primitive;
 use crate::divisor::{divisor_of_pair, quotient};
+use crate::narrow::is_narrow;
 
 /// A combination passed 128 bits: in this column, the first such, one of the two products or their difference is above
 /// `2^127 - 1` or below `-(2^127 - 1)`.
@@ -45,7 +46,8 @@ pub fn combine(target: &mut [i128], pivot: &[i128], at: usize) -> Result<(), Pas
     }
 }
 
-/// The test of `combine`: the first column in which it passes 128 bits. The conditions are those of `combine`.
+/// The test of `combine`: the first column in which it passes 128 bits. The conditions are those of `combine`. Rows whose
+/// numbers fit 64 bits need no product formed.
 pub fn first_passing(target: &[i128], pivot: &[i128], at: usize) -> Option<u32>
     requires lengths { length target.now ≡ length pivot.now }
     requires columns { length target.now < 2 ^ 32 }
@@ -57,6 +59,9 @@ pub fn first_passing(target: &[i128], pivot: &[i128], at: usize) -> Option<u32>
     ensures first { IfSome result (PassesFirst target.now pivot.now at) }
     ensures nowhere { IfNone result (PassesNowhere target.now pivot.now at) }
 {
+    if is_narrow(target) && is_narrow(pivot) {
+        return None;
+    }
     let factors = factors_of(target, pivot, at);
     for column in 0..target.len() {
         if checked_entry(target[column], pivot[column], factors).is_none() {
@@ -130,17 +135,12 @@ fn fitting_entry(target: i128, pivot: i128, factors: Factors) -> i128
 fn product(a: i128, b: i128) -> Option<i128>
     ensures { SomeIff result (FitsEntry (a *ℤ b)) (a *ℤ b) }
 {
-    match a.checked_mul(b) {
-        Some(i128::MIN) => None,
-        product => product,
-    }
+    a.checked_mul(b).filter(|product| *product != i128::MIN)
 }
 
 fn difference(a: i128, b: i128) -> Option<i128>
     ensures { SomeIff result (FitsEntry (a -ℤ b)) (a -ℤ b) }
 {
-    match a.checked_sub(b) {
-        Some(i128::MIN) => None,
-        difference => difference,
-    }
+    a.checked_sub(b)
+        .filter(|difference| *difference != i128::MIN)
 }

@@ -4,8 +4,24 @@ ghost use Rattle.std.specs.Int.{IsGcd};
 ghost use Rattle.row_definitions.specs.Rows.{row_divisor, divided};
 ghost use Rattle.row_definitions.specs.Combination.{FitsEntry};
 
-// Euclid's algorithm.
+// Euclid's algorithm, at half the width as soon as both numbers fit it.
 pub(crate) fn common_divisor(a: u128, b: u128) -> u128
+    ensures { IsGcd a b result }
+{
+    let mut x = a;
+    let mut y = b;
+    while y != 0 {
+        if x <= u64::MAX as u128 && y <= u64::MAX as u128 {
+            return narrow_divisor(x as u64, y as u64) as u128;
+        }
+        let rest = x % y;
+        x = y;
+        y = rest;
+    }
+    x
+}
+
+fn narrow_divisor(a: u64, b: u64) -> u64
     ensures { IsGcd a b result }
 {
     let mut x = a;

@@ -9,6 +9,7 @@
 mod combination;
 mod division;
 mod divisor;
+mod narrow;
 
 pub use combination::{Passed, combine, combine_within, first_passing};
 pub use division::primitive;

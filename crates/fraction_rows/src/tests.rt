@@ -20,6 +20,15 @@ fn combines_and_divides(rt: HostRuntime) {
 }
 
 #[test]
+fn tests_before_it_combines(rt: HostRuntime) {
+    // 3 * [5, 7] - 5 * [3, 2] = [0, 11].
+    let mut target = [5, 7];
+    assert_eq!(rt; first_passing(&target, &[3, 2], 0), None);
+    combine_within(&mut target, &[3, 2], 0);
+    assert_eq!(rt; target, [0, 1]);
+}
+
+#[test]
 fn primitive_keeps_signs(rt: HostRuntime) {
     let mut row = [-6, 0, 4, -10];
     primitive(&mut row);

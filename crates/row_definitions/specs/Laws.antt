@@ -3,7 +3,7 @@ use Rattle.std.specs.Prelude.{◌≡◌, ◌↔◌, ℕ, ◌<◌, List, length, 
 use Rattle.std.specs.Int.{◌∣◌}
 use Rattle.std.specs.List.{All}
 use Rattle.row_definitions.specs.Rows.{entry, row_divisor, primitive_row, scaled, IsPositiveMultiple, IsProportional}
-use Rattle.row_definitions.specs.Combination.{plain_combination, combined, FitsEntry, PassesNowhere}
+use Rattle.row_definitions.specs.Combination.{plain_combination, combined, FitsEntry, PassesNowhere, PassesFirst}
 
 -- a number divides each entry of a row
 abbrev pub IsCommonDivisor : ℕ → List ℤ → Type 0
@@ -84,3 +84,11 @@ ZeroThereStays = (target pivot : List ℤ) (at : ℕ) → length target ≡ leng
 -- and passes nowhere
 abbrev pub ZeroThereFits : Type 0
 ZeroThereFits = (target pivot : List ℤ) (at : ℕ) → All FitsEntry target → pos 0 <ℤ entry pivot at → entry target at ≡ pos 0 → PassesNowhere target pivot at
+
+-- there is one first passing column
+abbrev pub PassesFirstOnce : Type 0
+PassesFirstOnce = (target pivot : List ℤ) (at column other : ℕ) → PassesFirst target pivot at column → PassesFirst target pivot at other → column ≡ other
+
+-- a combination with a passing column does not pass nowhere
+abbrev pub PassesFirstOrNowhere : Type 0
+PassesFirstOrNowhere = (target pivot : List ℤ) (at column : ℕ) → PassesFirst target pivot at column → ¬ PassesNowhere target pivot at

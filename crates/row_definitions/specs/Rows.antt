@@ -16,7 +16,7 @@ abbrev pub greatest_to : (ℕ → Bool) → ℕ → ℕ
 greatest_to test zero = 0
 greatest_to test (suc limit) = cond (test (suc limit)) (suc limit) (greatest_to test limit)
 
--- the greatest common divisor of the entries of a row, and 0 of a row of zeros: no divisor of an entry other than 0 is above the sum of the sizes
+-- the greatest common divisor of the entries of a row, and 0 of a row of zeros; what divides an entry other than 0 is at most the sum of the sizes
 unfoldable pub row_divisor : List ℤ → ℕ
 row_divisor row = greatest_to (λ divisor. divides_each divisor row) (sum_by unsigned_abs row)
 
@@ -24,7 +24,7 @@ row_divisor row = greatest_to (λ divisor. divides_each divisor row) (sum_by uns
 abbrev pub divided : ℕ → ℤ → ℤ
 divided divisor x = int_div x (pos divisor)
 
--- the row divided by the greatest common divisor of its entries: each entry keeps its sign, and a row of zeros stays
+-- the primitive, or kept form, of a row: each entry divided by the greatest common divisor of all, with its sign; a row of zeros stays
 abbrev pub primitive_row : List ℤ → List ℤ
 primitive_row row = map (divided (row_divisor row)) row
 

@@ -5,9 +5,10 @@
 // - `divisor_law`: the divisor of a row is the greatest common divisor of its entries.
 // - `primitive_law`: a row is a positive multiple of its primitive, and rows of one direction have one primitive.
 // - `combination_law`: to combine primitives gives the primitive of the plain combination.
+// - `passing_law`: a combination passes 128 bits nowhere, or first in one column.
 #![tactic(auto)]
 
-ghost use Rattle.row_definitions.specs.Laws.{DivisorDivides, DivisorIsGreatest, RowIsMultipleOfPrimitive, ZeroRowStays, PrimitiveKeepsDirection, MultipleKeepsSigns, PrimitiveStays, UnitEntryIsPrimitive, PrimitiveFits, PrimitiveOfMultiple, PrimitiveOfProportional, CombinedIsPlain, CombinedOfKeptForms, CombinedKeepsDirection, CombinedFits, CombinedIsZeroThere, ZeroThereStays, ZeroThereFits};
+ghost use Rattle.row_definitions.specs.Laws.{DivisorDivides, DivisorIsGreatest, RowIsMultipleOfPrimitive, ZeroRowStays, PrimitiveKeepsDirection, MultipleKeepsSigns, PrimitiveStays, UnitEntryIsPrimitive, PrimitiveFits, PrimitiveOfMultiple, PrimitiveOfProportional, CombinedIsPlain, CombinedOfKeptForms, CombinedKeepsDirection, CombinedFits, CombinedIsZeroThere, ZeroThereStays, ZeroThereFits, PassesFirstOnce, PassesFirstOrNowhere};
 
 /// The divisor of a row is the greatest common divisor of its entries.
 pub fn divisor_law()
@@ -39,4 +40,10 @@ pub fn combination_law()
     ensures zero_there { CombinedIsZeroThere }
     ensures zero_there_stays { ZeroThereStays }
     ensures zero_there_fits { ZeroThereFits }
+{}
+
+/// A combination passes 128 bits nowhere, or first in one column.
+pub fn passing_law()
+    ensures once { PassesFirstOnce }
+    ensures or_nowhere { PassesFirstOrNowhere }
 {}
