@@ -10,3 +10,4 @@ pub mod Signs
 pub mod KeptPivots
 pub mod Sums
 pub mod Duality
+pub mod Optimum
