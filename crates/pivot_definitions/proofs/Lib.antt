@@ -11,3 +11,4 @@ pub mod KeptPivots
 pub mod Sums
 pub mod Duality
 pub mod Optimum
+pub mod Solutions
