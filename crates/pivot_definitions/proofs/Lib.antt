@@ -12,3 +12,4 @@ pub mod Sums
 pub mod Duality
 pub mod Optimum
 pub mod Solutions
+pub mod Bound

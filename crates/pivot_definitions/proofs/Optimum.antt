@@ -23,7 +23,7 @@ use Rattle.pivot_definitions.proofs.Sums.{sum_same, sum_scaled, sum_scaled_right
 use Rattle.pivot_definitions.proofs.Duality.{B, U, Solves, surplus, Combined, combined}
 
 -- the slack entries of the objective row times the rows as built
-abbrev S : LinearProgram → SimplexTableau → ℕ → ℤ
+abbrev pub S : LinearProgram → SimplexTableau → ℕ → ℤ
 S program t k = sum_below program.rows (λ j. objective t (program.columns + j) *ℤ B program j k)
 
 less_sum : (g o s : ℤ) (x u : ℤ) → g *ℤ o ≡ x *ℤ u +ℤ g *ℤ s → g *ℤ (o -ℤ s) ≡ x *ℤ u
@@ -41,7 +41,7 @@ core program plain all k =
         (sum_same program.rows (λ j. objective plain (program.columns + j) *ℤ B program j k) (λ j. (m.factor *ℤ objective (kept plain) (program.columns + j)) *ℤ B program j k) (λ j h. ap (λ x. x *ℤ B program j k) (m.entries (program.columns + j)))
         ∙ sum_scaled program.rows m.factor (λ j. objective (kept plain) (program.columns + j)) (λ j. B program j k)))
 
-scale_of : LinearProgram → SimplexTableau → ℤ
+abbrev pub scale_of : LinearProgram → SimplexTableau → ℤ
 scale_of program t = objective t 0 -ℤ S program t 0
 
 times_one : (x : ℤ) → x *ℤ pos 1 ≡ x
@@ -59,8 +59,7 @@ one_times x = rw (dif_is x) (simp difs (dif_same _ _ _ _ (omega arith)))
 assoc : (a b c : ℤ) → a *ℤ (b *ℤ c) ≡ (a *ℤ b) *ℤ c
 assoc a b c = rw (dif_is a, dif_is b, dif_is c) (simp difs (dif_same _ _ _ _ (omega arith)))
 
-scale_is : (program : LinearProgram) (plain : SimplexTableau) (all : Combined program plain) → (multiple plain (length plain.basis)).factor *ℤ scale_of program (kept plain) ≡ all.scale
-unfolding scale_of
+pub scale_is : (program : LinearProgram) (plain : SimplexTableau) (all : Combined program plain) → (multiple plain (length plain.basis)).factor *ℤ scale_of program (kept plain) ≡ all.scale
 scale_is program plain all = core program plain all 0 ∙ times_one all.scale
 
 unit_is : (program : LinearProgram) (k : ℕ) → U program k ≡ objective_of k
@@ -68,7 +67,7 @@ unit_is program zero = refl
 unit_is program (suc k) = (unit_facts program).elsewhere (suc k) (omega arith)
 
 -- .. so it is the scale times the objective
-at_column : (program : LinearProgram) (plain : SimplexTableau) → Combined program plain → (k : ℕ) → objective (kept plain) k -ℤ S program (kept plain) k ≡ scale_of program (kept plain) *ℤ objective_of k
+pub at_column : (program : LinearProgram) (plain : SimplexTableau) → Combined program plain → (k : ℕ) → objective (kept plain) k -ℤ S program (kept plain) k ≡ scale_of program (kept plain) *ℤ objective_of k
 at_column program plain all k =
     let m = multiple plain (length plain.basis) in
     same_from_product m.factor (objective (kept plain) k -ℤ S program (kept plain) k) (scale_of program (kept plain) *ℤ objective_of k) m.positive
@@ -78,12 +77,12 @@ scale_positive : (program : LinearProgram) (plain : SimplexTableau) → Combined
 scale_positive program plain all = let m = multiple plain (length plain.basis) in positive_from_product m.factor (scale_of program (kept plain)) m.positive (subst (λ z. pos 0 <ℤ z) (sym (scale_is program plain all)) all.positive)
 
 -- a sum by the multipliers is the negative of the slack entries' sum
-multiplied : (program : LinearProgram) (t : SimplexTableau) (k : ℕ) (f : ℕ → ℤ) → t.columns ≡ program.columns → ((j : ℕ) → j < program.rows → f j ≡ B program j k) → sum_below program.rows (λ j. multiplier_of t j *ℤ f j) ≡ neg_ℤ (S program t k)
+pub multiplied : (program : LinearProgram) (t : SimplexTableau) (k : ℕ) (f : ℕ → ℤ) → t.columns ≡ program.columns → ((j : ℕ) → j < program.rows → f j ≡ B program j k) → sum_below program.rows (λ j. multiplier_of t j *ℤ f j) ≡ neg_ℤ (S program t k)
 multiplied program t k f columns each =
     sum_same program.rows (λ j. multiplier_of t j *ℤ f j) (λ j. neg_ℤ (objective t (program.columns + j)) *ℤ B program j k) (λ j h. ap₂ (λ x y. x *ℤ y) (ap (λ c. neg_ℤ (objective t (c + j))) columns) (each j h))
     ∙ sum_negated program.rows (λ j. objective t (program.columns + j)) (λ j. B program j k)
 
-add_negative : (o s : ℤ) → o +ℤ neg_ℤ s ≡ o -ℤ s
+pub add_negative : (o s : ℤ) → o +ℤ neg_ℤ s ≡ o -ℤ s
 add_negative o s = rw (dif_is o, dif_is s) (simp difs (dif_same _ _ _ _ (omega arith)))
 
 rows_combine_kept : (program : LinearProgram) → IsProgram program → IsCapped program → (pivots : ℕ) (plain : SimplexTableau) → RunsTo (built program) pivots plain → (scale : ℤ) × CombinesToObjective program (kept plain) scale

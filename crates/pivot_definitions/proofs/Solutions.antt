@@ -41,11 +41,11 @@ zero_kept : (plain : SimplexTableau) (row k : ℕ) → entry_at plain row k ≡ 
 zero_kept plain row k e = let m = multiple plain row in same_from_product m.factor (entry_at (kept plain) row k) (pos 0) m.positive (sym (m.entries k) ∙ e ∙ sym (times_zero m.factor))
 
 -- a row's own entry in its basic column
-abbrev own : SimplexTableau → ℕ → ℤ
+abbrev pub own : SimplexTableau → ℕ → ℤ
 own t row = entry_at t row (basic_column t row)
 
 -- the entry in a row's basic column over all, and without one
-abbrev K : LinearProgram → SimplexTableau → ℤ
+abbrev pub K : LinearProgram → SimplexTableau → ℤ
 K program t = product_below program.rows (own t)
 
 abbrev rest : LinearProgram → SimplexTableau → ℕ → ℤ
@@ -60,7 +60,7 @@ pick f None = pos 0
 pick f (Some row) = f row
 
 -- the basic solution, so many times the product of the entries of all basic columns
-solution : LinearProgram → SimplexTableau → ℤ → ℕ → ℤ
+pub solution : LinearProgram → SimplexTableau → ℤ → ℕ → ℤ
 solution program t d k = pick (λ row. (d *ℤ right_side t row) *ℤ rest program t row) (row_of t k)
 
 found : (t : SimplexTableau) (k row : ℕ) → row_of t k ≡ Some row → (row < length t.basis) × (basic_column t row ≡ k)
@@ -71,9 +71,9 @@ by_row : (P : Option ℕ → Type 0) (o : Option ℕ) → (o ≡ None → P None
 by_row P None none some = none refl
 by_row P (Some row) none some = some row refl
 
-record Basic (program : LinearProgram) (plain : SimplexTableau) : Type 0 where
-  held : Reached program plain
-  all : Combined program plain
+pub record Basic (program : LinearProgram) (plain : SimplexTableau) : Type 0 where
+  pub held : Reached program plain
+  pub all : Combined program plain
 
 positive_own : (program : LinearProgram) (plain : SimplexTableau) → Basic program plain → (row : ℕ) → row < program.rows → pos 0 <ℤ own (kept plain) row
 positive_own program plain basic row h = positive_kept plain row (basic_column plain row) (basic.held.feasible.canonical.positive row (omega (arith, basic.held.count)))
@@ -112,7 +112,7 @@ at_own program plain d basic row h =
     ∙ ap (λ x. (x *ℤ d) *ℤ right_side (kept plain) row) (cofactor_is program.rows row (own (kept plain)) h)
 
 -- a column that is not the row's own has no part in the row
-no_part : (program : LinearProgram) (plain : SimplexTableau) (d : ℤ) → Basic program plain → (other k : ℕ) → other < length plain.rows → (other < program.rows → k ≢ basic_column plain other) → entry_at (kept plain) other k *ℤ solution program (kept plain) d k ≡ pos 0
+pub no_part : (program : LinearProgram) (plain : SimplexTableau) (d : ℤ) → Basic program plain → (other k : ℕ) → other < length plain.rows → (other < program.rows → k ≢ basic_column plain other) → entry_at (kept plain) other k *ℤ solution program (kept plain) d k ≡ pos 0
 unfolding solution pick
 no_part program plain d basic other k h differ =
     by_row (λ o. entry_at (kept plain) other k *ℤ pick (λ i. (d *ℤ right_side (kept plain) i) *ℤ rest program (kept plain) i) o ≡ pos 0) (row_of plain k)
@@ -126,10 +126,10 @@ no_part program plain d basic other k h differ =
 move_factor : (g k r : ℤ) → g *ℤ (k *ℤ r) ≡ k *ℤ (g *ℤ r)
 move_factor g k r = rw (dif_is g, dif_is k, dif_is r) (simp difs (dif_same _ _ _ _ (omega arith)))
 
-wide : (program : LinearProgram) (plain : SimplexTableau) → Basic program plain → column_count plain ≡ program.columns + program.rows
+pub wide : (program : LinearProgram) (plain : SimplexTableau) → Basic program plain → column_count plain ≡ program.columns + program.rows
 wide program plain basic = ap₂ (λ a b. a + b) basic.held.columns basic.held.count
 
-solves_plain : (program : LinearProgram) (plain : SimplexTableau) (d : ℤ) → Basic program plain → Solves program plain (solution program (kept plain) d) (K program (kept plain) *ℤ d)
+pub solves_plain : (program : LinearProgram) (plain : SimplexTableau) (d : ℤ) → Basic program plain → Solves program plain (solution program (kept plain) d) (K program (kept plain) *ℤ d)
 solves_plain program plain d basic i h =
     let n = program.columns + program.rows in
     let m = multiple plain i in
@@ -145,7 +145,7 @@ solves_plain program plain d basic i h =
 
 -- ---- the solution and the point
 
-K_positive : (program : LinearProgram) (plain : SimplexTableau) → Basic program plain → pos 0 <ℤ K program (kept plain)
+pub K_positive : (program : LinearProgram) (plain : SimplexTableau) → Basic program plain → pos 0 <ℤ K program (kept plain)
 K_positive program plain basic = product_positive program.rows (own (kept plain)) (λ k h. positive_own program plain basic k h)
 
 right_side_kept : (program : LinearProgram) (plain : SimplexTableau) → Basic program plain → (row : ℕ) → row < program.rows → pos 0 ≤ℤ right_side (kept plain) row
@@ -166,7 +166,7 @@ regroup_point : (o p c : ℤ) → (o *ℤ p) *ℤ c ≡ (o *ℤ c) *ℤ p
 regroup_point o p c = rw (dif_is o, dif_is p, dif_is c) (simp difs (dif_same _ _ _ _ (omega arith)))
 
 -- in the program's columns the solution is the point times the product
-solution_is : (program : LinearProgram) (plain : SimplexTableau) (d : ℤ) (point : ℕ → ℤ) → Basic program plain → IsSolutionTimes program (kept plain) d point → (k : ℕ) → k < program.columns → solution program (kept plain) d k ≡ K program (kept plain) *ℤ point k
+pub solution_is : (program : LinearProgram) (plain : SimplexTableau) (d : ℤ) (point : ℕ → ℤ) → Basic program plain → IsSolutionTimes program (kept plain) d point → (k : ℕ) → k < program.columns → solution program (kept plain) d k ≡ K program (kept plain) *ℤ point k
 unfolding solution pick
 solution_is program plain d point basic times k h =
     by_row (λ o. ((value : ℤ × ℤ) → MatchOption o (value ≡ (pos 0, pos 1)) (λ row. value ≡ (right_side (kept plain) row, entry_at (kept plain) row k)) → value.1 *ℤ point k ≡ d *ℤ value.0) → o ≡ row_of plain k → pick (λ i. (d *ℤ right_side (kept plain) i) *ℤ rest program (kept plain) i) o ≡ K program (kept plain) *ℤ point k) (row_of plain k)
@@ -209,7 +209,7 @@ point_not_negative : (program : LinearProgram) (plain : SimplexTableau) (d : ℤ
 point_not_negative program plain d point basic times k h =
     not_negative_from_product (K program (kept plain)) (point k) (K_positive program plain basic) (subst (λ z. pos 0 ≤ℤ z) (solution_is program plain d point basic times k h) (solution_not_negative program plain d basic times.positive k))
 
-basic_of : (program : LinearProgram) → IsProgram program → IsCapped program → (pivots : ℕ) (plain : SimplexTableau) → RunsTo (built program) pivots plain → Basic program plain
+pub basic_of : (program : LinearProgram) → IsProgram program → IsCapped program → (pivots : ℕ) (plain : SimplexTableau) → RunsTo (built program) pivots plain → Basic program plain
 basic_of program is capped pivots plain run = record { held = reached program is capped pivots plain run; all = combined program is capped pivots plain run }
 
 pub basic_solution_satisfies : BasicSolutionSatisfies

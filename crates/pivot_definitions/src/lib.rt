@@ -6,9 +6,15 @@
 // - `Tableaus`: the tableau of a program, a pivot in which nothing is divided, the kept form, and where a pivot of kept
 //   forms passes 128 bits.
 // - `Runs`: Bland's choice, runs, and the three ends of a run.
+// - `Feasible`: what holds of every tableau that a run reaches.
+// - `Duality`: the multipliers and the basic solution of a tableau that a run reaches.
+//
+// - `kept_form_law`: a pivot of kept forms gives the kept form of the plain pivot.
+// - `duality_law`: by the multipliers the rows bound the objective, and the basic solution reaches that bound.
 #![tactic(auto)]
 
 ghost use Rattle.pivot_definitions.specs.Laws.{KeptPivot};
+ghost use Rattle.pivot_definitions.specs.Duality.{RowsCombine, BestMultipliersBound, BasicSolutionSatisfies, LevelIsBound};
 
 /// The kept form of a plain pivot is the pivot of the kept form, so what stays within 128 bits by divisions keeps the
 /// signs and ratios of a tableau in which nothing is divided.
@@ -16,4 +22,15 @@ pub fn kept_form_law()
     ensures pivot { KeptPivot }
 {
     row_definitions::combination_law();
+}
+
+/// What a tableau of a run says of its program (linear programming duality). Its multipliers combine the rows into a
+/// positive multiple of the objective; where nothing is left to choose they are not negative, and so the right sides bound
+/// the objective. Its basic solution is a solution of the program, and column 0 of it is that bound.
+pub fn duality_law()
+    ensures rows_combine { RowsCombine }
+    ensures best_multipliers_bound { BestMultipliersBound }
+    ensures basic_solution_satisfies { BasicSolutionSatisfies }
+    ensures level_is_bound { LevelIsBound }
+{
 }
