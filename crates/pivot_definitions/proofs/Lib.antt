@@ -13,3 +13,5 @@ pub mod Duality
 pub mod Optimum
 pub mod Solutions
 pub mod Bound
+pub mod One
+pub mod Weak

@@ -68,3 +68,7 @@ BasicSolutionSatisfies = (program : LinearProgram) (tableau : SimplexTableau) (t
 -- column 0 of the basic solution is the right sides' sum by the multipliers, so at the best it is as large as they let it be
 abbrev pub LevelIsBound : Type 0
 LevelIsBound = (program : LinearProgram) (tableau : SimplexTableau) (scale times : ℤ) (point : ℕ → ℤ) → IsReached program tableau → CombinesToObjective program tableau scale → IsSolutionTimes program tableau times point → scale *ℤ point 0 ≡ times *ℤ right_side_sum program (multiplier_of tableau)
+
+-- no solution of the program has column 0 above what the multipliers make of the right sides
+abbrev pub BoundHolds : Type 0
+BoundHolds = (program : LinearProgram) (multiplier : ℕ → ℤ) (scale times : ℤ) (point : ℕ → ℤ) → IsProgram program → BoundsObjective program multiplier scale → IsFeasibleTimes program times point → (scale *ℤ point 0) ≤ℤ (times *ℤ right_side_sum program multiplier)

@@ -64,3 +64,11 @@ pub record EndsOutOfPivots (start : SimplexTableau) (budget pivots : ℕ) (end :
   pub whole_budget : pivots ≡ budget
   pub run : RunsTo start budget end
   pub choice : HasChoice end
+
+-- Bland's rule leaves no choice
+abbrev pub ChoiceIsOne : Type 0
+ChoiceIsOne = (tableau : SimplexTableau) (row column other_row other_column : ℕ) → IsChoice tableau row column → IsChoice tableau other_row other_column → (row ≡ other_row) × (column ≡ other_column)
+
+-- so many pivots from a tableau lead to one tableau
+abbrev pub RunIsOne : Type 0
+RunIsOne = (start : SimplexTableau) (pivots : ℕ) (end other : SimplexTableau) → RunsTo start pivots end → RunsTo start pivots other → end ≡ other

@@ -10,11 +10,13 @@
 // - `Duality`: the multipliers and the basic solution of a tableau that a run reaches.
 //
 // - `kept_form_law`: a pivot of kept forms gives the kept form of the plain pivot.
+// - `run_law`: a tableau's choice is one, and a run is one run.
 // - `duality_law`: by the multipliers the rows bound the objective, and the basic solution reaches that bound.
 #![tactic(auto)]
 
 ghost use Rattle.pivot_definitions.specs.Laws.{KeptPivot};
-ghost use Rattle.pivot_definitions.specs.Duality.{RowsCombine, BestMultipliersBound, BasicSolutionSatisfies, LevelIsBound};
+ghost use Rattle.pivot_definitions.specs.Runs.{ChoiceIsOne, RunIsOne};
+ghost use Rattle.pivot_definitions.specs.Duality.{RowsCombine, BestMultipliersBound, BasicSolutionSatisfies, LevelIsBound, BoundHolds};
 
 /// The kept form of a plain pivot is the pivot of the kept form, so what stays within 128 bits by divisions keeps the
 /// signs and ratios of a tableau in which nothing is divided.
@@ -24,13 +26,21 @@ pub fn kept_form_law()
     row_definitions::combination_law();
 }
 
+/// Bland's rule leaves no choice, so a run is one run.
+pub fn run_law()
+    ensures choice { ChoiceIsOne }
+    ensures run { RunIsOne }
+{
+}
+
 /// What a tableau of a run says of its program (linear programming duality). Its multipliers combine the rows into a
 /// positive multiple of the objective; where nothing is left to choose they are not negative, and so the right sides bound
-/// the objective. Its basic solution is a solution of the program, and column 0 of it is that bound.
+/// the objective at every solution. Its basic solution is a solution of the program, and column 0 of it is that bound.
 pub fn duality_law()
     ensures rows_combine { RowsCombine }
     ensures best_multipliers_bound { BestMultipliersBound }
     ensures basic_solution_satisfies { BasicSolutionSatisfies }
     ensures level_is_bound { LevelIsBound }
+    ensures bound_holds { BoundHolds }
 {
 }

@@ -1,6 +1,7 @@
 use Rattle.pivot_definitions.proofs.Optimum.{rows_combine, best_multipliers_bound}
 use Rattle.pivot_definitions.proofs.Solutions.{basic_solution_satisfies}
 use Rattle.pivot_definitions.proofs.Bound.{level_is_bound}
+use Rattle.pivot_definitions.proofs.Weak.{bound_holds}
 use Rattle.pivot_definitions.proofs.duality_law.Goals as goal
 
 pub returns-clause-rows_combine : goal.returns-clause-rows_combine
@@ -14,3 +15,6 @@ returns-clause-basic_solution_satisfies c = basic_solution_satisfies
 
 pub returns-clause-level_is_bound : goal.returns-clause-level_is_bound
 returns-clause-level_is_bound c = level_is_bound
+
+pub returns-clause-bound_holds : goal.returns-clause-bound_holds
+returns-clause-bound_holds c = bound_holds
