@@ -1,3 +1,4 @@
 pub mod Least
 pub mod Ratios
 pub mod Steps
+pub mod EndsOnce

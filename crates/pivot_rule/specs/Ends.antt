@@ -25,3 +25,7 @@ abbrev pub BestIsBest : RunEnd → SimplexTableau → Type 0
 BestIsBest (Best pivots) left = IsBest left
 BestIsBest (Wide pivots row column) left = Unit {0}
 BestIsBest (OutOfPivots pivots) left = Unit {0}
+
+-- a run from a tableau with a budget has one end
+abbrev pub EndIsOne : Type 0
+EndIsOne = (start : SimplexTableau) (budget : ℕ) (end other : RunEnd) (plain other_plain : SimplexTableau) → EndsAs start budget end plain → EndsAs start budget other other_plain → end ≡ other

@@ -1,5 +1,5 @@
 ghost use Rattle.std.specs.Prelude.{◌≡◌};
-ghost use Rattle.pivot_rule.specs.Ends.{IsCappedStart, RunEndsAs, BestIsBest};
+ghost use Rattle.pivot_rule.specs.Ends.{IsCappedStart, RunEndsAs, BestIsBest, EndIsOne};
 
 use crate::choice::{Choice, choose};
 use fraction_tableau::{Passed2, Tableau};
@@ -39,4 +39,10 @@ pub fn run(tableau: &mut Tableau, budget: u32) -> RunEnd
         Some(_) => RunEnd::OutOfPivots(budget),
         None => RunEnd::Best(budget),
     }
+}
+
+/// A run from a tableau with a budget has one end.
+pub fn end_law()
+    ensures { EndIsOne }
+{
 }

@@ -12,7 +12,7 @@ mod choice;
 mod ratio;
 mod bland;
 
-pub use bland::{RunEnd, run};
+pub use bland::{RunEnd, end_law, run};
 
 #[cfg(test)]
 mod tests;
