@@ -1,7 +1,7 @@
-ghost use Rattle.std.specs.Prelude.{◌≡◌, ◌*◌, ◌≤◌, ◌<◌, ◌^◌, length, pos, ◌≤ℤ◌, unsigned_abs};
+ghost use Rattle.std.specs.Prelude.{◌≡◌, ◌≤◌, ◌<◌, ◌^◌, ◌↔◌, length, pos, ◌≤ℤ◌, unsigned_abs, IsTrue};
 ghost use Rattle.std.specs.List.{All};
 ghost use Rattle.row_definitions.specs.Combination.{FitsEntry};
-ghost use Rattle.pivot_definitions.specs.Programs.{IsProgram, FitsEntries};
+ghost use Rattle.pivot_definitions.specs.Programs.{LinearProgram, IsWithinLimits, IsCapped, unit_row};
 
 use std::marker::Model;
 
@@ -22,33 +22,36 @@ pub struct Program {
 }
 
 impl Model for Program {
-    ghost use Rattle.std.specs.Prelude.{◌≤◌};
-    ghost use Rattle.pivot_definitions.specs.Programs.{LinearProgram, IsProgram, FitsEntries};
+    ghost use Rattle.pivot_definitions.specs.Programs.{LinearProgram, IsWithinLimits};
 
     ghost Value = { LinearProgram };
 
     ghost view = { λ p. record { columns = p.columns; rows = p.rows; coefficients = p.coefs.items; right_sides = p.right.items } };
 
-    ghost invariant = { λ p. (p.columns ≤ 2048) × (p.rows ≤ 2048) × IsProgram (record { columns = p.columns; rows = p.rows; coefficients = p.coefs.items; right_sides = p.right.items }) × FitsEntries (record { columns = p.columns; rows = p.rows; coefficients = p.coefs.items; right_sides = p.right.items }) };
+    ghost invariant = { λ p. IsWithinLimits (record { columns = p.columns; rows = p.rows; coefficients = p.coefs.items; right_sides = p.right.items }) };
 }
 
 impl Program {
-    /// The program of these coefficients, row by row, and right sides. There are from 1 to 2,048 columns and rows. No
-    /// right side is negative, and no number is the least `i128`.
+    /// Whether these make a program: there are from 1 to 2,048 columns and rows, a coefficient for each place and a right
+    /// side for each row; no right side is negative, and no number is the least `i128`.
+    pub fn fits(columns: u32, rows: u32, coefs: &[i128], right: &[i128]) -> bool
+        ensures { IsTrue result ↔ IsWithinLimits (record { columns = columns; rows = rows; coefficients = coefs.now; right_sides = right.now }) }
+    {
+        columns > 0
+            && columns <= MOST_COLUMNS
+            && rows > 0
+            && rows <= MOST_ROWS
+            && coefs.len() == columns as usize * rows as usize
+            && right.len() == rows as usize
+            && fit_entries(coefs)
+            && fit_entries(right)
+            && are_not_negative(right)
+    }
+
+    /// The program of these coefficients, row by row, and right sides, which fit. Takes no memory.
     pub fn of(columns: u32, rows: u32, coefs: Vec<i128>, right: Vec<i128>) -> Program
-        requires some_column { 0 < columns }
-        requires few_columns { columns ≤ MOST_COLUMNS }
-        requires some_row { 0 < rows }
-        requires few_rows { rows ≤ MOST_ROWS }
-        requires coefs_count { length coefs.items ≡ columns * rows }
-        requires right_count { length right.items ≡ rows }
-        requires not_negative { All (λ x. pos 0 ≤ℤ x) right.items }
-        requires coefs_fit { All FitsEntry coefs.items }
-        requires right_fit { All FitsEntry right.items }
-        ensures columns { result.columns ≡ columns }
-        ensures rows { result.rows ≡ rows }
-        ensures coefs { result.coefficients ≡ coefs.items }
-        ensures right { result.right_sides ≡ right.items }
+        requires { IsWithinLimits (record { columns = columns; rows = rows; coefficients = coefs.items; right_sides = right.items }) }
+        ensures { result ≡ record { columns = columns; rows = rows; coefficients = coefs.items; right_sides = right.items } }
     {
         Program {
             columns,
@@ -58,12 +61,19 @@ impl Program {
         }
     }
 
+    /// Whether the last row caps column 0: 1 in column 0, 0 elsewhere, and the right side 1.
+    pub fn is_capped(&self) -> bool
+        ensures { IsTrue result ↔ IsCapped self.now }
+    {
+        let last = self.rows as usize - 1;
+        let start = last * self.columns as usize;
+        self.right[last] == 1 && is_unit(&self.coefs[start..start + self.columns as usize])
+    }
+
     /// How many columns it has.
     pub fn columns(&self) -> u32
         ensures value { result ≡ self.now.columns }
-        ensures few { result ≤ MOST_COLUMNS }
-        ensures program { IsProgram self.now }
-        ensures fits { FitsEntries self.now }
+        ensures limits { IsWithinLimits self.now }
     {
         self.columns
     }
@@ -71,9 +81,7 @@ impl Program {
     /// How many rows it has.
     pub fn rows(&self) -> u32
         ensures value { result ≡ self.now.rows }
-        ensures few { result ≤ MOST_ROWS }
-        ensures program { IsProgram self.now }
-        ensures fits { FitsEntries self.now }
+        ensures limits { IsWithinLimits self.now }
     {
         self.rows
     }
@@ -91,4 +99,32 @@ impl Program {
     {
         self.right.as_slice()
     }
+}
+
+// Whether the numbers are entries' numbers.
+fn fit_entries(numbers: &[i128]) -> bool
+    ensures { IsTrue result ↔ All FitsEntry numbers.now }
+{
+    numbers.iter().all(|x| *x != i128::MIN)
+}
+
+// Whether no number is negative.
+fn are_not_negative(numbers: &[i128]) -> bool
+    ensures { IsTrue result ↔ All (λ x. pos 0 ≤ℤ x) numbers.now }
+{
+    numbers.iter().all(|x| *x >= 0)
+}
+
+// Whether the row is 1 in column 0 and 0 elsewhere.
+fn is_unit(row: &[i128]) -> bool
+    requires { 0 < length row.now }
+    ensures { IsTrue result ↔ (row.now ≡ unit_row (length row.now) 0) }
+{
+    row[0] == 1 && are_zero(&row[1..])
+}
+
+fn are_zero(numbers: &[i128]) -> bool
+    ensures { IsTrue result ↔ All (λ x. x ≡ pos 0) numbers.now }
+{
+    numbers.iter().all(|x| *x == 0)
 }

@@ -32,6 +32,13 @@ pub record FitsEntries (program : LinearProgram) : Type 0 where
   pub coefficients : All FitsEntry program.coefficients
   pub right_sides : All FitsEntry program.right_sides
 
+-- a program of at most 2,048 columns and rows whose numbers an entry may have
+pub record IsWithinLimits (program : LinearProgram) : Type 0 where
+  pub few_columns : program.columns ≤ 2048
+  pub few_rows : program.rows ≤ 2048
+  pub program_holds : IsProgram program
+  pub numbers_fit : FitsEntries program
+
 -- a row of so many entries with 1 in a column and 0 elsewhere
 abbrev pub unit_row : ℕ → ℕ → List ℤ
 unit_row width column = replicate column (pos 0) ++ pos 1 ∷ replicate (width - 1 - column) (pos 0)

@@ -14,6 +14,6 @@ pub invariant_of-result : goal.invariant_of-result
 invariant_of-result c =
     let program = c.args.program.now in
     let whole : c.loop-row.row ≡ program.rows = omega arith in
-    let few : program.rows ≤ 2048 = omega arith in
-    let few_columns : program.columns ≤ 2048 = omega arith in
-    built_facts program c.columns-columns.ensures.program c.columns-columns.ensures.fits few_columns few c.columns-columns.result c.loop-row.row _ _ _ _ c.columns-columns.ensures.value whole c.in_ok-push-3.ensures.items c.loop-row.invariant.rows c.in_ok-objective.ensures c.loop-row.invariant.basis
+    let few : program.rows ≤ 2048 = c.columns-columns.ensures.limits.few_rows in
+    let few_columns : program.columns ≤ 2048 = c.columns-columns.ensures.limits.few_columns in
+    built_facts program c.columns-columns.ensures.limits.program_holds c.columns-columns.ensures.limits.numbers_fit few_columns few c.columns-columns.result c.loop-row.row _ _ _ _ c.columns-columns.ensures.value whole c.in_ok-push-3.ensures.items c.loop-row.invariant.rows c.in_ok-objective.ensures c.loop-row.invariant.basis
