@@ -1,9 +1,9 @@
 -- Rows of a tableau in the loops of a pivot.
-use Rattle.std.proofs.Common.{◌≡◌, ◌≢◌, ℕ, zero, suc, ◌+◌, ◌-◌, ◌<◌, ◌≤◌, ◌^◌, List, [], ◌∷◌, ◌++◌, map, length, get_or, set, take, drop, refl, sym, ap, ap₂, ◌∙◌, subst, arith, of_z}
+use Rattle.std.proofs.Common.{◌≡◌, ℕ, suc, ◌+◌, ◌<◌, List, [], ◌∷◌, ◌++◌, map, length, get_or, set, take, drop, sym, ap, ap₂, ◌∙◌, subst, arith, of_z}
 use Rattle.std.specs.List.{All}
 use Rattle.std.specs.Int.{w128}
-use Rattle.std.proofs.lemmas.List.{length-append, length-map, length-take-le, get_or_default, get_or_at, set_at, take_at, drop_more, map_more, append_assoc, get_or-take, get_or-drop, drop-drop}
-use lib.IntN.{ℤ, pos, negsuc, nat_abs as unsigned_abs}
+use Rattle.std.proofs.lemmas.List.{length-map, length-take-le, get_or_default, get_or_at, set_at, take_at, drop_more, map_more, append_assoc, get_or-take, get_or-drop}
+use lib.IntN.{ℤ, pos, negsuc}
 use Rattle.row_definitions.specs.Rows.{entry}
 use Rattle.row_definitions.specs.Combination.{FitsEntry}
 use lib.Signed.{◌<ℤ◌}
@@ -51,7 +51,7 @@ pub after_at : (rows after : List (List ℤ)) (p k : ℕ) (d : List ℤ) → aft
 after_at rows after p k d is within = ap (λ xs. get_or xs k d) is ∙ get_or-drop (suc p) rows k d ∙ get_or_default rows (suc p + k) d [] within
 
 pub joined : (f : List ℤ → List ℤ) (rows before rest at after : List (List ℤ)) (p : ℕ) → before ≡ take p rows → rest ≡ drop p rows → at ≡ take 1 rest → after ≡ drop 1 rest → p < length rows
-  → (new_before new_after : List (List ℤ)) → new_before ≡ map f before → new_after ≡ map f after → new_before ++ (at ++ new_after) ≡ others_combined f rows p
+    → (new_before new_after : List (List ℤ)) → new_before ≡ map f before → new_after ≡ map f after → new_before ++ (at ++ new_after) ≡ others_combined f rows p
 joined f rows before rest at after p before_take rest_drop at_take after_drop within new_before new_after before_new after_new =
     let at_one : at ≡ get_or rows p [] ∷ [] = at_take ∙ ap (take 1) (rest_drop ∙ rest_is rows p within) in
     ap₂ (λ xs ys. xs ++ ys) (before_new ∙ ap (map f) before_take) (ap₂ (λ xs ys. xs ++ ys) at_one (after_new ∙ ap (map f) (after_is rows rest after p rest_drop after_drop within)))
@@ -62,7 +62,7 @@ moved P x y a b x_is y_is h = subst (λ z. P z y) (sym x_is) (subst (λ z. P a z
 
 -- the fields after a pivot are the pivot of the kept form
 pub after_pivot : (t : SimplexTableau) (p q len : ℕ) (lent new : List (List ℤ)) → lent ≡ t.rows → len ≡ length t.rows → new ≡ others_combined (λ target. combined target (get_or lent p []) q) lent p → p < length t.rows
-  → record { columns = t.columns; rows = take len (new ++ drop (length new) t.rows); basis = set t.basis p q } ≡ kept_pivot t p q
+    → record { columns = t.columns; rows = take len (new ++ drop (length new) t.rows); basis = set t.basis p q } ≡ kept_pivot t p q
 after_pivot t p q len lent new lent_is len_is new_is within =
     let result : new ≡ (kept_pivot t p q).rows = new_is ∙ ap (λ xs. others_combined (λ target. combined target (get_or xs p []) q) xs p) lent_is in
     let count : length new ≡ len = ap length result ∙ length-others (λ target. combined target (get_or t.rows p []) q) t.rows p within ∙ sym len_is in

@@ -25,7 +25,11 @@ impl Model for Row {
 }
 
 impl Row {
-    pub(crate) fn constraint(alloc: Global, program: &Program, row: usize) -> Result<Row, AllocError>
+    pub(crate) fn constraint(
+        alloc: Global,
+        program: &Program,
+        row: usize,
+    ) -> Result<Row, AllocError>
         requires { row < program.now.rows }
         ensures { IfOk result (λ r. r ≡ built_row program.now row) }
     {

@@ -1,5 +1,5 @@
-use Rattle.std.proofs.Common.{◌≡◌, ◌≢◌, ℕ, suc, ◌+◌, ◌-◌, ◌<◌, List, [], ◌∷◌, length, map, get_or, take, drop, refl, sym, ap, ap₂, ◌∙◌, subst, arith}
-use Rattle.std.proofs.lemmas.List.{length-drop, length-take-le}
+use Rattle.std.proofs.Common.{◌≡◌, suc, ◌+◌, ◌-◌, ◌<◌, List, [], length, map, get_or, ap, ◌∙◌, arith}
+use Rattle.std.proofs.lemmas.List.{length-drop}
 use lib.IntN.{ℤ}
 use Rattle.row_definitions.specs.Combination.{combined, PassesNowhere}
 use Rattle.fraction_tableau.specs.Combinable.{Combinable}
@@ -15,8 +15,8 @@ combine_each-requires c k d below =
     let before : k < p = omega (arith, first.front_len) in
     let within : p < length rows = c.requires.within in
     moved (λ x y. Combinable x y c.args.column × PassesNowhere x y c.args.column) _ _ (get_or rows k []) (get_or rows p [])
-      (before_is rows _ p k d first.front within below) (pivot_is rows _ _ p _ first.back second.front within)
-      (c.requires.combinable k (omega arith) (omega arith))
+    (before_is rows _ p k d first.front within below) (pivot_is rows _ _ p _ first.back second.front within)
+    (c.requires.combinable k (omega arith) (omega arith))
 
 pub combine_each-requires-2 : goal.combine_each-requires-2
 combine_each-requires-2 c k d below =
@@ -29,8 +29,8 @@ combine_each-requires-2 c k d below =
     let count : length c.split_at_mut-pivot.result.1.now ≡ length rows - suc p = ap length tail ∙ length-drop (suc p) rows in
     let inside : suc p + k < length rows = omega (arith, count) in
     moved (λ x y. Combinable x y c.args.column × PassesNowhere x y c.args.column) _ _ (get_or rows (suc p + k) []) (get_or rows p [])
-      (after_at rows _ p k d tail inside) (pivot_is rows _ _ p _ first.back second.front within)
-      (c.requires.combinable (suc p + k) inside (omega arith))
+    (after_at rows _ p k d tail inside) (pivot_is rows _ _ p _ first.back second.front within)
+    (c.requires.combinable (suc p + k) inside (omega arith))
 
 pub returns : goal.returns
 returns c =
@@ -42,5 +42,5 @@ returns c =
     let f : List ℤ → List ℤ → List ℤ = λ y target. combined target y c.args.column in
     let pivot = pivot_is rows c.split_at_mut-before.result.1.now c.split_at_mut-pivot.result.0.now p in
     joined (f (get_or rows p [])) rows c.split_at_mut-before.result.0.now c.split_at_mut-before.result.1.now c.split_at_mut-pivot.result.0.now c.split_at_mut-pivot.result.1.now p first.front first.back second.front second.back within c.combine_each.new.rows c.combine_each-2.new.rows
-      (c.combine_each.ensures ∙ ap (λ y. map (f y) c.split_at_mut-before.result.0.now) (pivot _ first.back second.front within))
-      (c.combine_each-2.ensures ∙ ap (λ y. map (f y) c.split_at_mut-pivot.result.1.now) (pivot _ first.back second.front within))
+    (c.combine_each.ensures ∙ ap (λ y. map (f y) c.split_at_mut-before.result.0.now) (pivot _ first.back second.front within))
+    (c.combine_each-2.ensures ∙ ap (λ y. map (f y) c.split_at_mut-pivot.result.1.now) (pivot _ first.back second.front within))

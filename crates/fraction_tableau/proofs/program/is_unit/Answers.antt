@@ -13,6 +13,7 @@ returns-then-row-eq1 c =
     let row = c.args.row.now in
     let fits : SFits w128 (get_or row 0 (pos 0)) = search rules in
     let one : get_or row 0 (pos 0) ≡ pos 1 = omega (arith, ints, c.if-row-eq1.true) in
-    let tail : take (length row - 1) (drop 1 row) ≡ drop 1 row = take_rest row 1 in
-    (λ zero. to_unit row c.requires one (subst (λ (xs : List ℤ). All (λ x. x ≡ pos 0) xs) tail (c.are_zero.ensures.0 zero)),
-      λ unit. c.are_zero.ensures.1 (subst (λ (xs : List ℤ). All (λ x. x ≡ pos 0) xs) (sym tail) (from_unit row _ unit)))
+    let tail : take (length row - 1) (drop 1 row) ≡ drop 1 row = take_rest row 1 in (
+      λ zero. to_unit row c.requires one (subst (λ (xs : List ℤ). All (λ x. x ≡ pos 0) xs) tail (c.are_zero.ensures.0 zero)),
+      λ unit. c.are_zero.ensures.1 (subst (λ (xs : List ℤ). All (λ x. x ≡ pos 0) xs) (sym tail) (from_unit row _ unit)),
+    )

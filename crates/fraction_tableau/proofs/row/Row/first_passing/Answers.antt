@@ -1,6 +1,5 @@
-use Rattle.std.proofs.Common.{◌≡◌, sym, ◌∙◌, ap, subst, get_or, List}
-use lib.IntN.{ℤ, pos}
-use Rattle.row_definitions.specs.Rows.{entry}
+use Rattle.std.proofs.Common.{◌≡◌, ◌∙◌, ap, get_or, List}
+use lib.IntN.{ℤ}
 use Rattle.row_definitions.proofs.Combinations.{fits-zero}
 use Rattle.fraction_tableau.proofs.RowLemmas.{zero_entry}
 use Rattle.fraction_tableau.proofs.row.Row.first_passing.Goals as goal

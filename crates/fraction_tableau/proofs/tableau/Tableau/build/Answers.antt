@@ -1,6 +1,4 @@
-use Rattle.std.proofs.Common.{◌≡◌, ℕ, ◌+◌, ◌≤◌, List, arith, ap, ◌∙◌, refl, sym, subst}
-use lib.IntN.{ℤ}
-use Rattle.pivot_definitions.specs.Tableaus.{SimplexTableau, IsTableau, HasFittingEntries, built}
+use Rattle.std.proofs.Common.{◌≡◌, ◌≤◌, arith, refl}
 use Rattle.pivot_definitions.proofs.Built.{rows_more, basis_more, built_facts}
 use Rattle.fraction_tableau.proofs.tableau.Tableau.build.Goals as goal
 

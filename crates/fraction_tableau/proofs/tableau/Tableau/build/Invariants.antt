@@ -6,5 +6,5 @@ use Rattle.fraction_tableau.proofs.tableau.Tableau.build.Given as goal
 abbrev pub invariant-loop-row : goal.invariant-loop-row
 invariant-loop-row l = record {
   rows : l.rows.items ≡ map (built_row l.program) (range_with_len 0 l.row);
-  basis : l.basis.items ≡ range_with_len l.columns l.row
+  basis : l.basis.items ≡ range_with_len l.columns l.row;
 }

@@ -1,4 +1,4 @@
-use Rattle.std.proofs.Common.{◌≡◌, ◌≢◌, ℕ, ◌<◌}
+use Rattle.std.proofs.Common.{◌≢◌, ℕ, ◌<◌}
 use Rattle.row_definitions.specs.Combination.{PassesNowhere}
 use Rattle.pivot_definitions.specs.Tableaus.{row_at}
 use Rattle.fraction_tableau.proofs.tableau.Tableau.first_passing.Given as goal

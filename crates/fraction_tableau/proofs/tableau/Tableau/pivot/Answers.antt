@@ -1,4 +1,4 @@
-use Rattle.std.proofs.Common.{◌≡◌, ◌≢◌, ℕ, ◌<◌, [], length, map, List, ◌∷◌, ◌++◌, refl, sym, ap, ap₂, ◌∙◌, subst, arith}
+use Rattle.std.proofs.Common.{◌<◌, length, sym, ◌∙◌, subst, arith}
 use Rattle.pivot_definitions.specs.Tableaus.{SimplexTableau, IsKeptTableau}
 use Rattle.fraction_tableau.proofs.RowLemmas.{after_pivot, kept_after, pivot_after}
 use Rattle.fraction_tableau.proofs.tableau.Tableau.pivot.Goals as goal
