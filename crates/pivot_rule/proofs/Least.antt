@@ -23,27 +23,27 @@ middle_product : (ej rb ei : ℤ) → ej *ℤ (rb *ℤ ei) ≡ ei *ℤ (rb *ℤ 
 middle_product ej rb ei = rw (dif_is ej, dif_is rb, dif_is ei) (simp difs (dif_same _ _ _ _ (omega arith)))
 
 pub trans : (ri ei rb eb rj ej : ℤ) (ci cb cj : ℕ) → pos 0 <ℤ ei → pos 0 <ℤ eb → pos 0 <ℤ ej
-  → (((ri *ℤ eb) <ℤ (rb *ℤ ei)) ⊎ (((ri *ℤ eb) ≡ (rb *ℤ ei)) × (ci < cb)))
-  → (((rb *ℤ ej) <ℤ (rj *ℤ eb)) ⊎ (((rb *ℤ ej) ≡ (rj *ℤ eb)) × (cb < cj)))
-  → ((ri *ℤ ej) <ℤ (rj *ℤ ei)) ⊎ (((ri *ℤ ej) ≡ (rj *ℤ ei)) × (ci < cj))
+    → (((ri *ℤ eb) <ℤ (rb *ℤ ei)) ⊎ (((ri *ℤ eb) ≡ (rb *ℤ ei)) × (ci < cb)))
+    → (((rb *ℤ ej) <ℤ (rj *ℤ eb)) ⊎ (((rb *ℤ ej) ≡ (rj *ℤ eb)) × (cb < cj)))
+    → ((ri *ℤ ej) <ℤ (rj *ℤ ei)) ⊎ (((ri *ℤ ej) ≡ (rj *ℤ ei)) × (ci < cj))
 trans ri ei rb eb rj ej ci cb cj hi hb hj first second =
     let a : ej *ℤ (ri *ℤ eb) ≡ eb *ℤ (ri *ℤ ej) = middle_product ej ri eb in
     let b : ej *ℤ (rb *ℤ ei) ≡ ei *ℤ (rb *ℤ ej) = middle_product ej rb ei in
     let d : ei *ℤ (rj *ℤ eb) ≡ eb *ℤ (rj *ℤ ei) = middle_product ei rj eb in
     elim first [
-        inl less ↦
+      | inl less ↦
           (let x = mul_below ej (ri *ℤ eb) (rb *ℤ ei) hj less in
           elim second [
-              inl less' ↦ (let y = mul_below ei (rb *ℤ ej) (rj *ℤ eb) hi less' in inl (below_from_product eb (ri *ℤ ej) (rj *ℤ ei) hb (omega (arith, linear, x, y, same_out _ _ a, same_out _ _ b, same_out _ _ d))))
+            | inl less' ↦ (let y = mul_below ei (rb *ℤ ej) (rj *ℤ eb) hi less' in inl (below_from_product eb (ri *ℤ ej) (rj *ℤ ei) hb (omega (arith, linear, x, y, same_out _ _ a, same_out _ _ b, same_out _ _ d))))
             | inr same' ↦ (let y = ap (λ z. ei *ℤ z) same'.0 in inl (below_from_product eb (ri *ℤ ej) (rj *ℤ ei) hb (omega (arith, linear, x, same_out _ _ y, same_out _ _ a, same_out _ _ b, same_out _ _ d))))
-            ])
+          ])
       | inr same ↦
           (let x = ap (λ z. ej *ℤ z) same.0 in
           elim second [
-              inl less' ↦ (let y = mul_below ei (rb *ℤ ej) (rj *ℤ eb) hi less' in inl (below_from_product eb (ri *ℤ ej) (rj *ℤ ei) hb (omega (arith, linear, same_out _ _ x, y, same_out _ _ a, same_out _ _ b, same_out _ _ d))))
+            | inl less' ↦ (let y = mul_below ei (rb *ℤ ej) (rj *ℤ eb) hi less' in inl (below_from_product eb (ri *ℤ ej) (rj *ℤ ei) hb (omega (arith, linear, same_out _ _ x, y, same_out _ _ a, same_out _ _ b, same_out _ _ d))))
             | inr same' ↦ (let y = ap (λ z. ei *ℤ z) same'.0 in inr (same_from_product eb (ri *ℤ ej) (rj *ℤ ei) hb (sym a ∙ x ∙ b ∙ y ∙ d), lt_trans same.1 same'.1))
-            ])
-      ]
+          ])
+    ]
 
 -- ---- one more row
 
@@ -54,8 +54,8 @@ least_new t q n (Some row) some here before = record {
   within = omega arith;
   candidate = here;
   least = λ other h can differ. by_eq other row
-    (λ e. subst (λ k. ComesBefore t q n k) (sym e) before)
-    (λ ne. trans (right_side t n) (entry_at t n q) (right_side t row) (entry_at t row q) (right_side t other) (entry_at t other q) (basic_column t n) (basic_column t row) (basic_column t other) here.positive some.candidate.positive can.positive before (some.least other (omega arith) can ne));
+      (λ e. subst (λ k. ComesBefore t q n k) (sym e) before)
+      (λ ne. trans (right_side t n) (entry_at t n q) (right_side t row) (entry_at t row q) (right_side t other) (entry_at t other q) (basic_column t n) (basic_column t row) (basic_column t other) here.positive some.candidate.positive can.positive before (some.least other (omega arith) can ne));
 }
 
 -- the least so far comes before the row

@@ -28,9 +28,9 @@ choosable program is capped plain held = record {
   right_sides = right_sides_kept plain held.feasible.right_sides;
   distinct = distinct_basis plain held.feasible.shape held.feasible.canonical;
   bounded = λ q enters.
-    (let there = enters_plain plain q enters in
-    let found = bounded program is capped plain q held there.within there.positive in
-    (found.0, record { within = found.1.within; positive = positive_kept plain found.0 q found.1.positive }));
+      (let there = enters_plain plain q enters in
+      let found = bounded program is capped plain q held there.within there.positive in
+      (found.0, record { within = found.1.within; positive = positive_kept plain found.0 q found.1.positive }));
 }
 
 map_same : (f : List ℤ → List ℤ) (rows : List (List ℤ)) → All (λ row. f row ≡ row) rows → map f rows ≡ rows
@@ -51,9 +51,11 @@ run_choosable start tableau n (program, is, capped, start_is) (plain, kept_is, r
     subst IsChoosable (sym kept_is) (choosable program is capped plain (reached program is capped n plain (subst (λ s. RunsTo s n plain) start_is run)))
 
 pub run_more : (start tableau after : SimplexTableau) (n row column : ℕ) → RunSoFar start n tableau → IsChoice tableau row column → PivotFits tableau row column → IsKeptPivot tableau row column after → RunSoFar start (n + 1) after
-run_more start tableau after n row column (plain, kept_is, run) choice fits pivot =
-    (plain_pivot plain row column, pivot plain (sym kept_is),
-      subst (λ k. RunsTo start k (plain_pivot plain row column)) (sym (add-one n)) (plain, run, row, column, choice_plain plain row column (subst (λ s. IsChoice s row column) kept_is choice), subst (λ s. PivotFits s row column) kept_is fits, refl))
+run_more start tableau after n row column (plain, kept_is, run) choice fits pivot = (
+  plain_pivot plain row column,
+  pivot plain (sym kept_is),
+  subst (λ k. RunsTo start k (plain_pivot plain row column)) (sym (add-one n)) (plain, run, row, column, choice_plain plain row column (subst (λ s. IsChoice s row column) kept_is choice), subst (λ s. PivotFits s row column) kept_is fits, refl),
+)
 
 pub ends_best : (start tableau : SimplexTableau) (budget n : ℕ) → n ≤ budget → RunSoFar start n tableau → IsBest tableau → (plain : SimplexTableau) × (tableau ≡ kept plain) × EndsBest start budget n plain
 ends_best start tableau budget n within (plain, kept_is, run) best = (plain, kept_is, record { within_budget = within; run = run; best = best_plain plain (subst IsBest kept_is best) })

@@ -44,5 +44,4 @@ pub fn run(tableau: &mut Tableau, budget: u32) -> RunEnd
 /// A run from a tableau with a budget has one end.
 pub fn end_law()
     ensures { EndIsOne }
-{
-}
+{}

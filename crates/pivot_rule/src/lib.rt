@@ -8,9 +8,9 @@
 // A program's last row caps column 0, so no run is unbounded, and no answer says that it is.
 #![tactic(auto)]
 
+mod bland;
 mod choice;
 mod ratio;
-mod bland;
 
 pub use bland::{RunEnd, end_law, run};
 
