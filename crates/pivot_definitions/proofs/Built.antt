@@ -1,16 +1,16 @@
 -- The tableau of a program as built is a tableau, and its entries fit where the program's numbers do.
-use Rattle.std.proofs.Common.{◌≡◌, ℕ, zero, suc, ◌+◌, ◌-◌, ◌*◌, ◌<◌, ◌≤◌, List, [], ◌∷◌, ◌++◌, map, length, get_or, set, take, drop, replicate, refl, sym, ap, ap₂, ◌∙◌, subst, arith, lit<, mul-le-mul_right}
+use Rattle.std.proofs.Common.{◌≡◌, ℕ, zero, suc, ◌+◌, ◌-◌, ◌*◌, ◌<◌, ◌≤◌, List, [], ◌∷◌, ◌++◌, map, length, drop, replicate, refl, sym, ap, ap₂, ◌∙◌, subst, arith, lit<, mul-le-mul_right}
 use Rattle.std.specs.List.{All, range_with_len}
-use Rattle.std.proofs.lemmas.List.{length-append, length-map, length-replicate, length-take-le, length-drop, map-id}
-use Rattle.std.proofs.lemmas.List.Elements.{All-append, All-cons, All-nil, All-map, All-replicate, All-take, All-drop, All-get_or, All-from_get_or}
-use Rattle.std.proofs.lemmas.List.FromFn.{length-map-range_with_len, get_or-map-range_with_len, map-range_with_len_more}
+use Rattle.std.proofs.lemmas.List.{length-append, length-replicate, length-take-le, length-drop, map-id}
+use Rattle.std.proofs.lemmas.List.Elements.{All-append, All-cons, All-nil, All-map, All-replicate, All-take, All-drop, All-get_or}
+use Rattle.std.proofs.lemmas.List.FromFn.{length-map-range_with_len, map-range_with_len_more}
 use lib.IntN.{ℤ, pos, nat_abs as unsigned_abs}
 use Rattle.std.proofs.lemmas.List.{get_or_at, get_or_append_left, get_or-append_right}
 use Rattle.row_definitions.specs.Rows.{entry, primitive_row}
 use Rattle.row_definitions.proofs.Primitives.{primitive_row-unit}
 use Rattle.row_definitions.specs.Combination.{FitsEntry}
 use Rattle.pivot_definitions.specs.Programs.{LinearProgram, IsProgram, FitsEntries, coefficient_row, unit_row}
-use Rattle.pivot_definitions.specs.Tableaus.{SimplexTableau, IsTableau, HasFittingEntries, HasPrimitiveRows, IsKeptTableau, built, built_row, built_objective, column_count}
+use Rattle.pivot_definitions.specs.Tableaus.{IsTableau, HasFittingEntries, HasPrimitiveRows, IsKeptTableau, built, built_row, built_objective, column_count}
 
 pub length-range : (a n : ℕ) → length (range_with_len a n) ≡ n
 length-range a zero = refl
@@ -43,8 +43,8 @@ built-IsTableau program is =
     record {
       row_count = omega (arith, count, length-append (map (built_row program) (range_with_len 0 program.rows)) (built_objective program ∷ []), length-map-range_with_len (built_row program) 0 program.rows);
       widths = All-append (λ row. length row ≡ column_count (built program) + 1) (map (built_row program) (range_with_len 0 program.rows)) (built_objective program ∷ [])
-        (All-map (λ row. length row ≡ column_count (built program) + 1) (built_row program) (range_with_len 0 program.rows) (All-range (λ k. length (built_row program k) ≡ column_count (built program) + 1) 0 program.rows (λ k low high. omega (arith, count, length-built_row program is k (omega arith)))))
-        (All-cons (λ row. length row ≡ column_count (built program) + 1) (built_objective program) [] (omega (arith, count, length-built_objective program)) (All-nil _));
+          (All-map (λ row. length row ≡ column_count (built program) + 1) (built_row program) (range_with_len 0 program.rows) (All-range (λ k. length (built_row program k) ≡ column_count (built program) + 1) 0 program.rows (λ k low high. omega (arith, count, length-built_row program is k (omega arith)))))
+          (All-cons (λ row. length row ≡ column_count (built program) + 1) (built_objective program) [] (omega (arith, count, length-built_objective program)) (All-nil _));
       basic_columns = All-range (λ column. column < column_count (built program)) program.columns program.rows (λ k low high. omega (arith, count));
     }
 
@@ -64,9 +64,9 @@ fits_unit width column = All-append FitsEntry (replicate column (pos 0)) (pos 1 
 pub built-HasFittingEntries : (program : LinearProgram) → IsProgram program → FitsEntries program → HasFittingEntries (built program)
 built-HasFittingEntries program is fits = All-append (All FitsEntry) (map (built_row program) (range_with_len 0 program.rows)) (built_objective program ∷ [])
     (All-map (All FitsEntry) (built_row program) (range_with_len 0 program.rows) (All-range (λ k. All FitsEntry (built_row program k)) 0 program.rows
-      (λ k low high. All-append FitsEntry (coefficient_row program k ++ unit_row program.rows k) (entry program.right_sides k ∷ [])
-        (All-append FitsEntry (coefficient_row program k) (unit_row program.rows k) (All-take FitsEntry program.columns (drop (k * program.columns) program.coefficients) (All-drop FitsEntry (k * program.columns) program.coefficients fits.coefficients)) (fits_unit program.rows k))
-        (All-cons FitsEntry (entry program.right_sides k) [] (All-get_or FitsEntry program.right_sides k (pos 0) (omega (arith, is.every_right_side)) fits.right_sides) (All-nil FitsEntry)))))
+    (λ k low high. All-append FitsEntry (coefficient_row program k ++ unit_row program.rows k) (entry program.right_sides k ∷ [])
+    (All-append FitsEntry (coefficient_row program k) (unit_row program.rows k) (All-take FitsEntry program.columns (drop (k * program.columns) program.coefficients) (All-drop FitsEntry (k * program.columns) program.coefficients fits.coefficients)) (fits_unit program.rows k))
+    (All-cons FitsEntry (entry program.right_sides k) [] (All-get_or FitsEntry program.right_sides k (pos 0) (omega (arith, is.every_right_side)) fits.right_sides) (All-nil FitsEntry)))))
     (All-cons (All FitsEntry) (built_objective program) [] (All-cons FitsEntry (pos 1) (replicate (program.columns + program.rows) (pos 0)) (lit< tt) (All-replicate FitsEntry (program.columns + program.rows) (pos 0) (lit< tt))) (All-nil _))
 
 -- one more number of a range
@@ -84,13 +84,13 @@ basis_more a n last before is = last ∙ ap₂ (λ xs x. xs ++ x ∷ []) before 
 pub built-HasPrimitiveRows : (program : LinearProgram) → IsProgram program → HasPrimitiveRows (built program)
 built-HasPrimitiveRows program is = All-append (λ row. primitive_row row ≡ row) (map (built_row program) (range_with_len 0 program.rows)) (built_objective program ∷ [])
     (All-map (λ row. primitive_row row ≡ row) (built_row program) (range_with_len 0 program.rows) (All-range (λ k. primitive_row (built_row program k) ≡ built_row program k) 0 program.rows
-      (λ k low high. primitive_row-unit (built_row program k) (program.columns + k) (ap unsigned_abs (built_slack program is k k (omega arith) (omega arith) ∙ unit_here program.rows k)))))
+    (λ k low high. primitive_row-unit (built_row program k) (program.columns + k) (ap unsigned_abs (built_slack program is k k (omega arith) (omega arith) ∙ unit_here program.rows k)))))
     (All-cons (λ row. primitive_row row ≡ row) (built_objective program) [] (primitive_row-unit (built_objective program) 0 refl) (All-nil _))
 
 -- a tableau whose parts are those of the tableau as built
 pub built_facts : (program : LinearProgram) → IsProgram program → FitsEntries program → program.columns ≤ 2048 → program.rows ≤ 2048 → (columns n : ℕ) (rows all : List (List ℤ)) (last : List ℤ) (basis : List ℕ)
-  → columns ≡ program.columns → n ≡ program.rows → all ≡ rows ++ last ∷ [] → rows ≡ map (built_row program) (range_with_len 0 n) → last ≡ built_objective program → basis ≡ range_with_len columns n
-  → IsKeptTableau (record { columns = columns; rows = all; basis = basis })
+    → columns ≡ program.columns → n ≡ program.rows → all ≡ rows ++ last ∷ [] → rows ≡ map (built_row program) (range_with_len 0 n) → last ≡ built_objective program → basis ≡ range_with_len columns n
+    → IsKeptTableau (record { columns = columns; rows = all; basis = basis })
 built_facts program is fits few_columns few columns n rows all last basis columns_is n_is all_is rows_is last_is basis_is =
     let same_rows : all ≡ (built program).rows = all_is ∙ ap₂ (λ xs x. xs ++ x ∷ []) (rows_is ∙ ap (λ k. map (built_row program) (range_with_len 0 k)) n_is) last_is in
     let same_basis : basis ≡ (built program).basis = basis_is ∙ ap₂ (λ a k. range_with_len a k) columns_is n_is in

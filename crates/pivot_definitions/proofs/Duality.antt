@@ -1,18 +1,18 @@
 -- What each pivot of a run keeps: the rows combine the rows as built by their slack entries, and a point that solves the rows solves the rows as built.
-use Rattle.std.proofs.Common.{◌≡◌, ◌≢◌, ℕ, zero, suc, ◌+◌, ◌-◌, ◌*◌, ◌<◌, ◌≤◌, ◌⊎◌, inl, inr, length, refl, sym, ap, ap₂, ◌∙◌, subst, arith}
+use Rattle.std.proofs.Common.{◌≡◌, ◌≢◌, ℕ, zero, suc, ◌+◌, ◌<◌, length, sym, ap, ap₂, ◌∙◌, subst, arith}
 use lib.IntN.{ℤ, pos, ◌+ℤ◌, ◌-ℤ◌, ◌*ℤ◌}
-use lib.Signed.{◌<ℤ◌, ◌≤ℤ◌}
+use lib.Signed.{◌<ℤ◌}
 use borrow.Author.Differences.{same_out}
 use Rattle.row_definitions.specs.Rows.{entry}
 use Rattle.pivot_definitions.specs.Programs.{LinearProgram, IsProgram, IsCapped, unit_row}
-use Rattle.pivot_definitions.specs.Tableaus.{SimplexTableau, IsTableau, row_at, entry_at, basic_column, column_count, objective, plain_pivot, built, built_row, built_objective}
-use Rattle.pivot_definitions.specs.Runs.{IsChoice, RunsTo}
+use Rattle.pivot_definitions.specs.Tableaus.{SimplexTableau, entry_at, objective, plain_pivot, built, built_row, built_objective}
+use Rattle.pivot_definitions.specs.Runs.{RunsTo}
 use Rattle.pivot_definitions.specs.Duality.{sum_below}
 use Rattle.pivot_definitions.proofs.Ring.{by_eq, dif_is, difs, dif_same, linear, mul_pos, same_from_product}
 use Rattle.pivot_definitions.proofs.Pivots.{PivotFacts, pivot_facts}
 use Rattle.pivot_definitions.proofs.Built.{length-range, built_slack, unit_here}
 use Rattle.pivot_definitions.proofs.Start.{row_built, objective_built, unit_elsewhere, unit_facts}
-use Rattle.pivot_definitions.proofs.Reached.{Reached, reached, reached_step}
+use Rattle.pivot_definitions.proofs.Reached.{Reached, reached}
 use Rattle.pivot_definitions.proofs.Sums.{sum_same, sum_linear, sum_one, sum_none}
 
 -- a row as built, and the objective row as built
@@ -55,12 +55,12 @@ combined_built program is =
       scale = pos 1;
       positive = omega (arith, linear);
       rows_are = λ i k h.
-        (let own : (j : ℕ) → j < program.rows → entry_at (built program) i (program.columns + j) ≡ entry (unit_row program.rows i) j = λ j hj. ap (λ r. entry r (program.columns + j)) (row_built program i h) ∙ built_slack program is i j h hj in
-        ap (λ r. entry r k) (row_built program i h)
-        ∙ sym (sum_one program.rows i (λ j. entry_at (built program) i (program.columns + j) *ℤ B program j k) h (λ j hj differ. ap (λ x. x *ℤ B program j k) (own j hj ∙ unit_elsewhere program.rows i j differ) ∙ zero_times (B program j k))
+          (let own : (j : ℕ) → j < program.rows → entry_at (built program) i (program.columns + j) ≡ entry (unit_row program.rows i) j = λ j hj. ap (λ r. entry r (program.columns + j)) (row_built program i h) ∙ built_slack program is i j h hj in
+          ap (λ r. entry r k) (row_built program i h)
+          ∙ sym (sum_one program.rows i (λ j. entry_at (built program) i (program.columns + j) *ℤ B program j k) h (λ j hj differ. ap (λ x. x *ℤ B program j k) (own j hj ∙ unit_elsewhere program.rows i j differ) ∙ zero_times (B program j k))
           ∙ ap (λ x. x *ℤ B program i k) (own i h ∙ unit_here program.rows i) ∙ one_times (B program i k)));
       objective_is = λ k. last k ∙ one_and_none (U program k) ∙ ap (λ x. pos 1 *ℤ U program k +ℤ x) (sym (sum_none program.rows (λ j. objective (built program) (program.columns + j) *ℤ B program j k)
-        (λ j hj. ap (λ x. x *ℤ B program j k) (last (program.columns + j) ∙ (unit_facts program).elsewhere (program.columns + j) (omega arith)) ∙ zero_times (B program j k))));
+          (λ j hj. ap (λ x. x *ℤ B program j k) (last (program.columns + j) ∙ (unit_facts program).elsewhere (program.columns + j) (omega arith)) ∙ zero_times (B program j k))));
       back = λ z d solves. solves;
       value = λ z d solves. ap₂ (λ x y. x -ℤ d *ℤ y) (sum_same (program.columns + program.rows) (λ k. objective (built program) k *ℤ z k) (λ k. U program k *ℤ z k) (λ k h. ap (λ x. x *ℤ z k) (last k))) (last (program.columns + program.rows)) ∙ sym (one_times (surplus program (U program) z d));
     }
@@ -89,37 +89,37 @@ combined_step program t u p q held facts within positive combined =
     let other : (i k : ℕ) → i < program.rows → i ≢ p → entry_at u i k ≡ P *ℤ entry_at t i k -ℤ entry_at t i q *ℤ entry_at t p k = λ i k h ne. facts.other i k (omega (arith, rows, count)) ne in
     let last : (k : ℕ) → objective u k ≡ P *ℤ objective t k -ℤ objective t q *ℤ entry_at t p k = λ k. ap (λ r. entry_at u r k) facts.count ∙ facts.other (length t.basis) k (omega (arith, rows)) (omega (arith, count)) in
     let back : (z : ℕ → ℤ) (d : ℤ) → Solves program u z d → Solves program t z d = λ z d solves i h.
-      (let at_p : sum_below n (λ k. entry_at t p k *ℤ z k) ≡ d *ℤ entry_at t p n = sum_same n (λ k. entry_at t p k *ℤ z k) (λ k. entry_at u p k *ℤ z k) (λ k hk. ap (λ x. x *ℤ z k) (sym (facts.same k))) ∙ solves p within ∙ ap (λ x. d *ℤ x) (facts.same n) in
-      by_eq i p
-        (λ e. subst (λ r. sum_below n (λ k. entry_at t r k *ℤ z k) ≡ d *ℤ entry_at t r n) (sym e) at_p)
-        (λ ne.
-          let whole : P *ℤ sum_below n (λ k. entry_at t i k *ℤ z k) -ℤ entry_at t i q *ℤ (d *ℤ entry_at t p n) ≡ P *ℤ (d *ℤ entry_at t i n) -ℤ entry_at t i q *ℤ (d *ℤ entry_at t p n) =
-            ap (λ x. P *ℤ sum_below n (λ k. entry_at t i k *ℤ z k) -ℤ entry_at t i q *ℤ x) (sym at_p)
-            ∙ sym (sum_linear n P (entry_at t i q) (λ k. entry_at t i k) (λ k. entry_at t p k) z)
-            ∙ sum_same n (λ k. (P *ℤ entry_at t i k -ℤ entry_at t i q *ℤ entry_at t p k) *ℤ z k) (λ k. entry_at u i k *ℤ z k) (λ k hk. ap (λ x. x *ℤ z k) (sym (other i k h ne)))
-            ∙ solves i h ∙ ap (λ x. d *ℤ x) (other i n h ne) ∙ apart_products P (entry_at t i q) d (entry_at t i n) (entry_at t p n) P in
-          same_from_product P (sum_below n (λ k. entry_at t i k *ℤ z k)) (d *ℤ entry_at t i n) positive (cancel_last (P *ℤ sum_below n (λ k. entry_at t i k *ℤ z k)) (P *ℤ (d *ℤ entry_at t i n)) (entry_at t i q *ℤ (d *ℤ entry_at t p n)) whole))) in
+    (let at_p : sum_below n (λ k. entry_at t p k *ℤ z k) ≡ d *ℤ entry_at t p n = sum_same n (λ k. entry_at t p k *ℤ z k) (λ k. entry_at u p k *ℤ z k) (λ k hk. ap (λ x. x *ℤ z k) (sym (facts.same k))) ∙ solves p within ∙ ap (λ x. d *ℤ x) (facts.same n) in
+    by_eq i p
+    (λ e. subst (λ r. sum_below n (λ k. entry_at t r k *ℤ z k) ≡ d *ℤ entry_at t r n) (sym e) at_p)
+    (λ ne.
+    let whole : P *ℤ sum_below n (λ k. entry_at t i k *ℤ z k) -ℤ entry_at t i q *ℤ (d *ℤ entry_at t p n) ≡ P *ℤ (d *ℤ entry_at t i n) -ℤ entry_at t i q *ℤ (d *ℤ entry_at t p n) =
+    ap (λ x. P *ℤ sum_below n (λ k. entry_at t i k *ℤ z k) -ℤ entry_at t i q *ℤ x) (sym at_p)
+    ∙ sym (sum_linear n P (entry_at t i q) (λ k. entry_at t i k) (λ k. entry_at t p k) z)
+    ∙ sum_same n (λ k. (P *ℤ entry_at t i k -ℤ entry_at t i q *ℤ entry_at t p k) *ℤ z k) (λ k. entry_at u i k *ℤ z k) (λ k hk. ap (λ x. x *ℤ z k) (sym (other i k h ne)))
+    ∙ solves i h ∙ ap (λ x. d *ℤ x) (other i n h ne) ∙ apart_products P (entry_at t i q) d (entry_at t i n) (entry_at t p n) P in
+    same_from_product P (sum_below n (λ k. entry_at t i k *ℤ z k)) (d *ℤ entry_at t i n) positive (cancel_last (P *ℤ sum_below n (λ k. entry_at t i k *ℤ z k)) (P *ℤ (d *ℤ entry_at t i n)) (entry_at t i q *ℤ (d *ℤ entry_at t p n)) whole))) in
     record {
       scale = P *ℤ combined.scale;
       positive = mul_pos P combined.scale positive combined.positive;
       rows_are = λ i k h. by_eq i p
-        (λ e. subst (λ r. entry_at u r k ≡ sum_below program.rows (λ j. entry_at u r (program.columns + j) *ℤ B program j k)) (sym e)
+          (λ e. subst (λ r. entry_at u r k ≡ sum_below program.rows (λ j. entry_at u r (program.columns + j) *ℤ B program j k)) (sym e)
           (facts.same k ∙ combined.rows_are p k within ∙ sum_same program.rows (λ j. entry_at t p (program.columns + j) *ℤ B program j k) (λ j. entry_at u p (program.columns + j) *ℤ B program j k) (λ j hj. ap (λ x. x *ℤ B program j k) (sym (facts.same (program.columns + j))))))
-        (λ ne. other i k h ne ∙ ap₂ (λ x y. P *ℤ x -ℤ entry_at t i q *ℤ y) (combined.rows_are i k h) (combined.rows_are p k within)
+          (λ ne. other i k h ne ∙ ap₂ (λ x y. P *ℤ x -ℤ entry_at t i q *ℤ y) (combined.rows_are i k h) (combined.rows_are p k within)
           ∙ sym (sum_linear program.rows P (entry_at t i q) (λ j. entry_at t i (program.columns + j)) (λ j. entry_at t p (program.columns + j)) (λ j. B program j k))
           ∙ sum_same program.rows (λ j. (P *ℤ entry_at t i (program.columns + j) -ℤ entry_at t i q *ℤ entry_at t p (program.columns + j)) *ℤ B program j k) (λ j. entry_at u i (program.columns + j) *ℤ B program j k) (λ j hj. ap (λ x. x *ℤ B program j k) (sym (other i (program.columns + j) h ne))));
       objective_is = λ k. last k ∙ ap₂ (λ x y. P *ℤ x -ℤ objective t q *ℤ y) (combined.objective_is k) (combined.rows_are p k within)
-        ∙ split_scale P (objective t q) combined.scale (U program k) (sum_below program.rows (λ j. objective t (program.columns + j) *ℤ B program j k)) (sum_below program.rows (λ j. entry_at t p (program.columns + j) *ℤ B program j k))
-        ∙ ap (λ x. (P *ℤ combined.scale) *ℤ U program k +ℤ x) (sym (sum_linear program.rows P (objective t q) (λ j. objective t (program.columns + j)) (λ j. entry_at t p (program.columns + j)) (λ j. B program j k))
+          ∙ split_scale P (objective t q) combined.scale (U program k) (sum_below program.rows (λ j. objective t (program.columns + j) *ℤ B program j k)) (sum_below program.rows (λ j. entry_at t p (program.columns + j) *ℤ B program j k))
+          ∙ ap (λ x. (P *ℤ combined.scale) *ℤ U program k +ℤ x) (sym (sum_linear program.rows P (objective t q) (λ j. objective t (program.columns + j)) (λ j. entry_at t p (program.columns + j)) (λ j. B program j k))
           ∙ sum_same program.rows (λ j. (P *ℤ objective t (program.columns + j) -ℤ objective t q *ℤ entry_at t p (program.columns + j)) *ℤ B program j k) (λ j. objective u (program.columns + j) *ℤ B program j k) (λ j hj. ap (λ x. x *ℤ B program j k) (sym (last (program.columns + j)))));
       back = λ z d solves. combined.back z d (back z d solves);
       value = λ z d solves.
-        (let before = back z d solves in
-        ap₂ (λ x y. x -ℤ d *ℤ y)
+          (let before = back z d solves in
+          ap₂ (λ x y. x -ℤ d *ℤ y)
           (sum_same n (λ k. objective u k *ℤ z k) (λ k. (P *ℤ objective t k -ℤ objective t q *ℤ entry_at t p k) *ℤ z k) (λ k hk. ap (λ x. x *ℤ z k) (last k)) ∙ sum_linear n P (objective t q) (λ k. objective t k) (λ k. entry_at t p k) z ∙ ap (λ x. P *ℤ sum_below n (λ k. objective t k *ℤ z k) -ℤ objective t q *ℤ x) (before p within))
           (last n)
-        ∙ surplus_step P (objective t q) d (sum_below n (λ k. objective t k *ℤ z k)) (objective t n) (entry_at t p n) P
-        ∙ ap (λ x. P *ℤ x) (combined.value z d before) ∙ product_assoc P combined.scale (surplus program (U program) z d));
+          ∙ surplus_step P (objective t q) d (sum_below n (λ k. objective t k *ℤ z k)) (objective t n) (entry_at t p n) P
+          ∙ ap (λ x. P *ℤ x) (combined.value z d before) ∙ product_assoc P combined.scale (surplus program (U program) z d));
     }
 
 pub combined : (program : LinearProgram) → IsProgram program → IsCapped program → (n : ℕ) (t : SimplexTableau) → RunsTo (built program) n t → Combined program t

@@ -1,10 +1,10 @@
 -- The kept form of a plain pivot is the pivot of the kept form.
-use Rattle.std.proofs.Common.{◌≡◌, ℕ, zero, suc, List, [], ◌∷◌, ◌++◌, map, get_or, set, take, drop, refl, sym, ap, ap₂, ◌∙◌, subst}
-use lib.IntN.{ℤ, pos}
+use Rattle.std.proofs.Common.{◌≡◌, ℕ, zero, suc, List, [], ◌∷◌, map, get_or, set, refl, sym, ap, ap₂, ◌∙◌}
+use lib.IntN.{ℤ}
 use Rattle.row_definitions.specs.Rows.{primitive_row}
 use Rattle.row_definitions.specs.Combination.{plain_combination, combined}
 use Rattle.row_definitions.specs.Laws.{CombinedOfKeptForms}
-use Rattle.pivot_definitions.specs.Tableaus.{SimplexTableau, row_at, others_combined}
+use Rattle.pivot_definitions.specs.Tableaus.{row_at, others_combined}
 use Rattle.pivot_definitions.specs.Laws.{KeptPivot}
 
 map_both : (f g h : List ℤ → List ℤ) → ((row : List ℤ) → f (g row) ≡ h (f row)) → (rows : List (List ℤ)) → map f (map g rows) ≡ map h (map f rows)
@@ -29,5 +29,5 @@ pub kept_pivot_lem : CombinedOfKeptForms → KeptPivot
 kept_pivot_lem law plain p q within positive =
     let pivot = row_at plain p in
     let same : (row : List ℤ) → primitive_row (plain_combination row pivot q) ≡ combined (primitive_row row) (get_or (map primitive_row plain.rows) p []) q =
-      λ row. sym (law row pivot q positive) ∙ ap (λ kept_row. combined (primitive_row row) kept_row q) (sym (row_kept plain.rows p)) in
+    λ row. sym (law row pivot q positive) ∙ ap (λ kept_row. combined (primitive_row row) kept_row q) (sym (row_kept plain.rows p)) in
     ap (λ rows. record { columns = plain.columns; rows = rows; basis = set plain.basis p q }) (map_others primitive_row _ _ refl same plain.rows p)

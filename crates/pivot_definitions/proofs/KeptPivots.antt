@@ -1,15 +1,15 @@
 -- The pivot of a kept form is in kept form, and is the kept form of the plain pivot.
-use Rattle.std.proofs.Common.{◌≡◌, ◌≢◌, ℕ, zero, suc, ◌+◌, ◌-◌, ◌*◌, ◌<◌, ◌≤◌, List, [], ◌∷◌, ◌++◌, map, length, get_or, set, take, drop, refl, sym, ap, ap₂, ◌∙◌, subst, arith}
+use Rattle.std.proofs.Common.{◌≡◌, ◌≢◌, ℕ, ◌+◌, ◌<◌, List, [], length, get_or, sym, ap, ◌∙◌, subst, arith}
 use Rattle.std.specs.List.{All}
 use Rattle.std.proofs.lemmas.List.{length-map, length-set}
 use Rattle.std.proofs.lemmas.List.Elements.{All-from_get_or, All-set, All-weaker}
-use lib.IntN.{ℤ, pos, ◌-ℤ◌, ◌*ℤ◌}
+use lib.IntN.{ℤ, pos}
 use lib.Signed.{◌<ℤ◌}
-use Rattle.row_definitions.specs.Rows.{entry, primitive_row, row_divisor, divided}
-use Rattle.row_definitions.specs.Combination.{FitsEntry, combination, combined, reduced_combination, target_factor, pivot_factor, PassesNowhere}
+use Rattle.row_definitions.specs.Rows.{primitive_row, row_divisor, divided}
+use Rattle.row_definitions.specs.Combination.{FitsEntry, combined, reduced_combination, target_factor, pivot_factor, PassesNowhere}
 use Rattle.row_definitions.proofs.Primitives.{primitive_row-primitive_row, FitsEntry-primitive_row}
 use Rattle.row_definitions.proofs.Combinations.{length-combination, entry-combination, combined_of_kept_forms}
-use Rattle.pivot_definitions.specs.Tableaus.{SimplexTableau, IsTableau, IsKeptTableau, HasFittingEntries, HasPrimitiveRows, row_at, entry_at, column_count, others_combined, plain_pivot, kept, IsKeptPivot, PivotFits}
+use Rattle.pivot_definitions.specs.Tableaus.{SimplexTableau, IsKeptTableau, row_at, entry_at, column_count, others_combined, IsKeptPivot, PivotFits}
 use Rattle.pivot_definitions.specs.Laws.{kept_pivot}
 use Rattle.pivot_definitions.proofs.Ring.{by_eq}
 use Rattle.pivot_definitions.proofs.Pivots.{length-others, same_row, other_row, width}

@@ -1,15 +1,15 @@
 -- Why a run never is unbounded: from the first pivot on column 0 stays basic in one row, the cap is a combination of that
 -- row and at most one other with factors that are not negative, and the objective row is column 0 less a positive multiple
 -- of that row. So where an entry of the objective row is positive, the one row's entry is negative, and the other's positive.
-use Rattle.std.proofs.Common.{◌≡◌, ◌≢◌, ℕ, zero, suc, ◌+◌, ◌-◌, ◌*◌, ◌<◌, ◌≤◌, ◌⊎◌, inl, inr, length, refl, sym, ap, ap₂, ◌∙◌, subst, arith}
+use Rattle.std.proofs.Common.{◌≡◌, ◌≢◌, ℕ, ◌+◌, ◌<◌, ◌⊎◌, inl, inr, length, refl, sym, ap, ap₂, ◌∙◌, subst, arith}
 use Rattle.std.proofs.lemmas.Int.{by_lt_z}
 use lib.IntN.{ℤ, pos, ◌+ℤ◌, ◌-ℤ◌, ◌*ℤ◌}
 use lib.Signed.{◌<ℤ◌, ◌≤ℤ◌}
 use borrow.Author.Differences.{same_out}
-use Rattle.pivot_definitions.specs.Tableaus.{SimplexTableau, IsTableau, row_at, entry_at, basic_column, column_count, objective, plain_pivot}
-use Rattle.pivot_definitions.specs.Runs.{CanLeave, Leaves, Enters, IsChoice}
+use Rattle.pivot_definitions.specs.Tableaus.{SimplexTableau, IsTableau, entry_at, basic_column, column_count, objective}
+use Rattle.pivot_definitions.specs.Runs.{CanLeave}
 use Rattle.pivot_definitions.specs.Feasible.{IsCanonical}
-use Rattle.pivot_definitions.proofs.Ring.{by_eq, dif_is, difs, dif_same, linear, mul_pos, mul_negative, mul_not_negative, mul_not_positive, not_positive_from_product}
+use Rattle.pivot_definitions.proofs.Ring.{by_eq, dif_is, difs, dif_same, linear, mul_pos, mul_negative, mul_not_negative, mul_not_positive}
 use Rattle.pivot_definitions.proofs.Pivots.{PivotFacts}
 
 -- the cap: 1 in column 0 and in its slack column, and 0 in every other before the right side
@@ -59,10 +59,10 @@ zero_less f x = rw (dif_is f, dif_is x) (simp difs (dif_same _ _ _ _ (omega arit
 pub level_negative : (c e f o u r : ℤ) → pos 0 <ℤ c → pos 0 <ℤ e → c *ℤ o ≡ f *ℤ u -ℤ e *ℤ r → u ≡ pos 0 → pos 0 <ℤ o → r <ℤ pos 0
 level_negative c e f o u r hc he same zero_u ho =
     by_lt_z r (pos 0) (λ x. x) (λ x.
-      let y = mul_pos c o hc ho in
-      let z = mul_not_negative e r (omega (arith, linear)) x in
-      let w : c *ℤ o ≡ pos 0 -ℤ e *ℤ r = same ∙ ap (λ v. f *ℤ v -ℤ e *ℤ r) zero_u ∙ zero_less f (e *ℤ r) in
-      absurd (omega (arith, linear, same_out _ _ w, y, z)))
+    let y = mul_pos c o hc ho in
+    let z = mul_not_negative e r (omega (arith, linear)) x in
+    let w : c *ℤ o ≡ pos 0 -ℤ e *ℤ r = same ∙ ap (λ v. f *ℤ v -ℤ e *ℤ r) zero_u ∙ zero_less f (e *ℤ r) in
+    absurd (omega (arith, linear, same_out _ _ w, y, z)))
 
 split_one : (a P r0k r0q pk x : ℤ) → a *ℤ (P *ℤ r0k -ℤ r0q *ℤ pk) +ℤ pos 0 *ℤ x ≡ P *ℤ (a *ℤ r0k) -ℤ (a *ℤ r0q) *ℤ pk
 split_one a P r0k r0q pk x = rw (dif_is a, dif_is P, dif_is r0k, dif_is r0q, dif_is pk, dif_is x) (simp difs (dif_same _ _ _ _ (omega arith)))
@@ -121,13 +121,13 @@ entering_facts t cap unit slack q is canonical capped unit_facts level within po
     let unit_zero = unit_facts.elsewhere q not_level in
     let negative = level_negative level.c level.e level.f (objective t q) (unit q) (entry_at t level.level_row q) level.positive_c level.positive_e (level.objective_is q) unit_zero positive in
     let not_slack : q ≢ slack = λ e. elim level.other [
-        inl none ↦
+      | inl none ↦
           (let d_is : level.d *ℤ pos 1 ≡ level.a *ℤ entry_at t level.level_row q = ap (λ z. level.d *ℤ z) (sym (ap cap e ∙ capped.at_slack)) ∙ level.cap_is q ∙ ap (λ z. level.a *ℤ entry_at t level.level_row q +ℤ z *ℤ entry_at t level.other_row q) none ∙ add_zero_times (level.a *ℤ entry_at t level.level_row q) (entry_at t level.other_row q) in
           let below = mul_negative level.a (entry_at t level.level_row q) level.positive_a negative in
           let above = mul_pos level.d (pos 1) level.positive_d (omega (arith, linear)) in
           omega (arith, linear, same_out _ _ d_is, below, above))
       | inr there ↦ enters_not_level t q level.other_row is canonical there.0 positive (e ∙ sym there.1)
-      ] in
+    ] in
     record { not_level = not_level; not_slack = not_slack; cap_zero = capped.elsewhere q within not_level not_slack; unit_zero = unit_zero; negative = negative }
 
 pub level_step : (t u : SimplexTableau) (cap unit : ℕ → ℤ) (slack p q : ℕ) → IsTableau t → IsCanonical t → PivotFacts t u p q → CapFacts cap slack (column_count t) → UnitFacts unit → q < column_count t → pos 0 <ℤ objective t q → CanLeave t q p → Level t cap unit slack → Level u cap unit slack
@@ -146,27 +146,53 @@ level_step t u cap unit slack p q is canonical facts capped unit_facts within po
     let basic : basic_column u i0 ≡ 0 = facts.stays i0 not_p ∙ level.basic in
     let d_positive = mul_pos P level.d leaves.positive level.positive_d in
     let alone : ((k : ℕ) → (P *ℤ level.d) *ℤ cap k ≡ level.a *ℤ (P *ℤ entry_at t i0 k -ℤ entry_at t i0 q *ℤ entry_at t p k) +ℤ pos 0 *ℤ entry_at u i0 k) → Level u cap unit slack = λ cap_is. record {
-      level_row = i0; other_row = i0; within = omega (arith, level.within, facts.count); basic = basic;
-      a = level.a; b = pos 0; d = P *ℤ level.d; positive_a = level.positive_a; not_negative_b = omega (arith, linear); positive_d = d_positive;
+      level_row = i0;
+      other_row = i0;
+      within = omega (arith, level.within, facts.count);
+      basic = basic;
+      a = level.a;
+      b = pos 0;
+      d = P *ℤ level.d;
+      positive_a = level.positive_a;
+      not_negative_b = omega (arith, linear);
+      positive_d = d_positive;
       cap_is = λ k. cap_is k ∙ ap (λ z. level.a *ℤ z +ℤ pos 0 *ℤ entry_at u i0 k) (sym (r0 k));
       other = inl refl;
-      c = level.c; e = level.e; f = P *ℤ level.f; positive_c = level.positive_c; positive_e = level.positive_e; objective_is = objective_is;
+      c = level.c;
+      e = level.e;
+      f = P *ℤ level.f;
+      positive_c = level.positive_c;
+      positive_e = level.positive_e;
+      objective_is = objective_is;
     } in
     elim level.other [
-        inl none ↦ alone (λ k. cap_one level.a level.b level.d P (entry_at t i0 k) (entry_at t i0 q) (entry_at t i1 k) (entry_at t i1 q) (entry_at t p k) (cap k) (entry_at u i0 k) none (level.cap_is k) at_q)
+      | inl none ↦ alone (λ k. cap_one level.a level.b level.d P (entry_at t i0 k) (entry_at t i0 q) (entry_at t i1 k) (entry_at t i1 q) (entry_at t p k) (cap k) (entry_at u i0 k) none (level.cap_is k) at_q)
       | inr there ↦ by_eq i1 p
           (λ same. alone (λ k. cap_three level.a level.b level.d P (entry_at t i0 k) (entry_at t i0 q) (entry_at t p k) (cap k) (entry_at u i0 k) (level.cap_is k ∙ ap (λ n. level.a *ℤ entry_at t i0 k +ℤ level.b *ℤ entry_at t n k) same) (at_q ∙ ap (λ n. level.a *ℤ entry_at t i0 q +ℤ level.b *ℤ entry_at t n q) same)))
           (λ differ.
-            let other_in : i1 < length t.rows = omega (arith, rows, there.0) in
-            let r1 : (k : ℕ) → entry_at u i1 k ≡ P *ℤ entry_at t i1 k -ℤ entry_at t i1 q *ℤ entry_at t p k = λ k. facts.other i1 k other_in differ in
-            record {
-              level_row = i0; other_row = i1; within = omega (arith, level.within, facts.count); basic = basic;
-              a = level.a; b = level.b; d = P *ℤ level.d; positive_a = level.positive_a; not_negative_b = level.not_negative_b; positive_d = d_positive;
-              cap_is = λ k. cap_two level.a level.b level.d P (entry_at t i0 k) (entry_at t i0 q) (entry_at t i1 k) (entry_at t i1 q) (entry_at t p k) (cap k) (level.cap_is k) at_q ∙ ap₂ (λ y z. level.a *ℤ y +ℤ level.b *ℤ z) (sym (r0 k)) (sym (r1 k));
-              other = inr (omega (arith, there.0, facts.count), facts.stays i1 differ ∙ there.1);
-              c = level.c; e = level.e; f = P *ℤ level.f; positive_c = level.positive_c; positive_e = level.positive_e; objective_is = objective_is;
-            })
-      ]
+          let other_in : i1 < length t.rows = omega (arith, rows, there.0) in
+          let r1 : (k : ℕ) → entry_at u i1 k ≡ P *ℤ entry_at t i1 k -ℤ entry_at t i1 q *ℤ entry_at t p k = λ k. facts.other i1 k other_in differ in
+          record {
+            level_row = i0;
+            other_row = i1;
+            within = omega (arith, level.within, facts.count);
+            basic = basic;
+            a = level.a;
+            b = level.b;
+            d = P *ℤ level.d;
+            positive_a = level.positive_a;
+            not_negative_b = level.not_negative_b;
+            positive_d = d_positive;
+            cap_is = λ k. cap_two level.a level.b level.d P (entry_at t i0 k) (entry_at t i0 q) (entry_at t i1 k) (entry_at t i1 q) (entry_at t p k) (cap k) (level.cap_is k) at_q ∙ ap₂ (λ y z. level.a *ℤ y +ℤ level.b *ℤ z) (sym (r0 k)) (sym (r1 k));
+            other = inr (omega (arith, there.0, facts.count), facts.stays i1 differ ∙ there.1);
+            c = level.c;
+            e = level.e;
+            f = P *ℤ level.f;
+            positive_c = level.positive_c;
+            positive_e = level.positive_e;
+            objective_is = objective_is;
+          })
+    ]
 
 -- a column with a positive entry in the objective row has a positive entry in a constraint row
 pub level_bounded : (t : SimplexTableau) (cap unit : ℕ → ℤ) (slack q : ℕ) → IsTableau t → IsCanonical t → CapFacts cap slack (column_count t) → UnitFacts unit → q < column_count t → pos 0 <ℤ objective t q → Level t cap unit slack → (row : ℕ) × CanLeave t q row
@@ -176,11 +202,14 @@ level_bounded t cap unit slack q is canonical capped unit_facts within positive 
     let below = mul_negative level.a (entry_at t level.level_row q) level.positive_a found.negative in
     let none : level.d *ℤ pos 0 ≡ pos 0 = rw (dif_is level.d) (simp difs (dif_same _ _ _ _ (omega arith))) in
     elim level.other [
-        inl zero_b ↦
+      | inl zero_b ↦
           (let x : level.d *ℤ pos 0 ≡ level.a *ℤ entry_at t level.level_row q = at_q ∙ ap (λ z. level.a *ℤ entry_at t level.level_row q +ℤ z *ℤ entry_at t level.other_row q) zero_b ∙ add_zero_times (level.a *ℤ entry_at t level.level_row q) (entry_at t level.other_row q) in
           absurd (omega (arith, linear, same_out _ _ x, same_out _ _ none, below)))
-      | inr there ↦ (level.other_row, record {
+      | inr there ↦ (
+        level.other_row,
+        record {
           within = there.0;
           positive = by_lt_z (pos 0) (entry_at t level.other_row q) (λ x. x) (λ x. let y = mul_not_positive level.b (entry_at t level.other_row q) level.not_negative_b x in absurd (omega (arith, linear, same_out _ _ at_q, same_out _ _ none, below, y)));
-        })
-      ]
+        },
+      )
+    ]

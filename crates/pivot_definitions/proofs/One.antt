@@ -1,11 +1,11 @@
 -- A run from a tableau with a budget is one run, with one end.
-use Rattle.std.proofs.Common.{◌≡◌, ◌≢◌, ℕ, zero, suc, ◌+◌, ◌*◌, ◌<◌, ◌≤◌, ◌⊎◌, inl, inr, length, refl, sym, ap, ◌∙◌, subst, arith}
+use Rattle.std.proofs.Common.{◌≡◌, ℕ, zero, suc, ◌<◌, ◌⊎◌, inl, inr, sym, ap, ◌∙◌, subst, arith}
 use Rattle.std.proofs.lemmas.Bool.{cases_order}
-use lib.IntN.{ℤ, pos, ◌*ℤ◌}
-use lib.Signed.{◌<ℤ◌, ◌≤ℤ◌}
+use lib.IntN.{ℤ, ◌*ℤ◌}
+use lib.Signed.{◌<ℤ◌}
 use borrow.Author.Differences.{same_out}
-use Rattle.pivot_definitions.specs.Tableaus.{SimplexTableau, row_at, entry_at, right_side, basic_column, column_count, objective, plain_pivot, kept, PivotFits, PivotPassesFirst}
-use Rattle.pivot_definitions.specs.Runs.{IsBest, Enters, CanLeave, ComesBefore, Leaves, IsChoice, RunsTo, HasChoice, EndsBest, EndsWide, EndsOutOfPivots, ChoiceIsOne, RunIsOne}
+use Rattle.pivot_definitions.specs.Tableaus.{SimplexTableau, entry_at, right_side, basic_column, plain_pivot, kept, PivotFits, PivotPassesFirst}
+use Rattle.pivot_definitions.specs.Runs.{IsBest, Enters, Leaves, IsChoice, RunsTo, EndsBest, EndsWide, EndsOutOfPivots, ChoiceIsOne, RunIsOne}
 use Rattle.pivot_definitions.proofs.Ring.{by_eq, linear}
 
 by_order : {P : Type 0} (a b : ℕ) → (a ≡ b → P) → (a < b → P) → (b < a → P) → P
@@ -18,9 +18,9 @@ enters_one t q r first second = by_order q r (λ e. e)
 
 not_both : (a b : ℤ) (m n : ℕ) → ((a <ℤ b) ⊎ ((a ≡ b) × (m < n))) → ((b <ℤ a) ⊎ ((b ≡ a) × (n < m))) → ⊥
 not_both a b m n first second = elim first [
-    inl less ↦ elim second [ inl more ↦ omega (arith, linear, less, more) | inr same ↦ omega (arith, linear, less, same_out _ _ same.0) ]
+  | inl less ↦ elim second [ inl more ↦ omega (arith, linear, less, more) | inr same ↦ omega (arith, linear, less, same_out _ _ same.0) ]
   | inr same ↦ elim second [ inl more ↦ omega (arith, linear, more, same_out _ _ same.0) | inr other ↦ omega (arith, same.1, other.1) ]
-  ]
+]
 
 leaves_one : (t : SimplexTableau) (q p r : ℕ) → Leaves t q p → Leaves t q r → p ≡ r
 leaves_one t q p r first second = by_eq p r (λ e. e) (λ ne.
@@ -62,12 +62,14 @@ not_passing t p q row column fits passes = passes.passes.passes (fits row passes
 place_one : (t : SimplexTableau) (p q r c r' c' : ℕ) → PivotPassesFirst t p q r c → PivotPassesFirst t p q r' c' → (r ≡ r') × (c ≡ c')
 place_one t p q r c r' c' first second =
     let row : r ≡ r' = by_order r r' (λ e. e)
-      (λ h. absurd (first.passes.passes (second.fits_before r h first.another c first.passes.within)))
-      (λ h. absurd (second.passes.passes (first.fits_before r' h second.another c' second.passes.within))) in
-    let there = subst (λ k. PivotPassesFirst t p q k c') (sym row) second in
-    (row, by_order c c' (λ e. e)
-      (λ h. absurd (first.passes.passes (there.passes.fits_before c h)))
-      (λ h. absurd (there.passes.passes (first.passes.fits_before c' h))))
+    (λ h. absurd (first.passes.passes (second.fits_before r h first.another c first.passes.within)))
+    (λ h. absurd (second.passes.passes (first.fits_before r' h second.another c' second.passes.within))) in
+    let there = subst (λ k. PivotPassesFirst t p q k c') (sym row) second in (
+      row,
+      by_order c c' (λ e. e)
+          (λ h. absurd (first.passes.passes (there.passes.fits_before c h)))
+          (λ h. absurd (there.passes.passes (first.passes.fits_before c' h))),
+    )
 
 -- ---- the ends exclude one another
 

@@ -1,26 +1,19 @@
 -- The laws of duality for the kept form of a tableau that a run reaches.
-use Rattle.std.proofs.Common.{◌≡◌, ◌≢◌, ℕ, zero, suc, ◌+◌, ◌-◌, ◌*◌, ◌<◌, ◌≤◌, ◌⊎◌, ◌==◌, Option, None, Some, true, false, inl, inr, length, get_or, refl, sym, ap, ap₂, ◌∙◌, subst, arith}
-use Rattle.std.specs.List.{position, position_or_len}
-use Rattle.std.specs.Prelude.{MatchOption, nat_lt, cond}
-use Rattle.std.proofs.lemmas.List.Quantifiers.{position-Some}
-use Rattle.std.proofs.lemmas.List.Sums.{position_or_len_is}
-use Rattle.std.proofs.lemmas.Bool.Decides.{nat_tests}
-use Rattle.std.proofs.lemmas.Int.{by_lt_z}
+use Rattle.std.proofs.Common.{◌≡◌, ℕ, zero, suc, ◌+◌, ◌<◌, length, refl, sym, ap, ap₂, ◌∙◌, subst, arith}
 use lib.IntN.{ℤ, pos, ◌+ℤ◌, ◌-ℤ◌, ◌*ℤ◌, neg_ℤ}
-use lib.Signed.{◌<ℤ◌, ◌≤ℤ◌}
+use lib.Signed.{◌<ℤ◌}
 use borrow.Author.Differences.{same_out}
 use Rattle.row_definitions.specs.Rows.{entry}
 use Rattle.pivot_definitions.specs.Programs.{LinearProgram, IsProgram, IsCapped, coefficient}
-use Rattle.pivot_definitions.specs.Tableaus.{SimplexTableau, IsTableau, row_at, entry_at, basic_column, column_count, objective, right_side, multiplier_of, IsValueOf, plain_pivot, built, built_row, built_objective, kept}
-use Rattle.pivot_definitions.specs.Runs.{IsBest, RunsTo}
-use Rattle.pivot_definitions.specs.Duality.{sum_below, row_sum, column_sum, right_side_sum, objective_of, CombinesToObjective, BoundsObjective, IsSolutionTimes, IsFeasibleTimes, IsReached, RowsCombine, BestMultipliersBound, BasicSolutionSatisfies, LevelIsBound}
-use Rattle.pivot_definitions.proofs.Ring.{by_eq, dif_is, difs, dif_same, linear, mul_pos, mul_not_negative, positive_from_product, not_negative_from_product, same_from_product, at_most_from_product}
-use Rattle.pivot_definitions.proofs.Built.{length-range, built_slack, unit_here}
-use Rattle.pivot_definitions.proofs.Start.{row_built, unit_elsewhere, unit_facts, built_coefficient, built_right_side}
-use Rattle.pivot_definitions.proofs.Reached.{Reached, reached}
-use Rattle.pivot_definitions.proofs.Signs.{multiple, positive_kept, not_negative_kept}
-use Rattle.pivot_definitions.proofs.Sums.{sum_same, sum_scaled, sum_scaled_right, sum_negated, sum_one, sum_none, sum_parts, product_below, product_positive, cofactor, cofactor_is, cofactor_positive}
-use Rattle.pivot_definitions.proofs.Duality.{B, U, Solves, surplus, Combined, combined}
+use Rattle.pivot_definitions.specs.Tableaus.{SimplexTableau, column_count, objective, multiplier_of, built, kept}
+use Rattle.pivot_definitions.specs.Runs.{RunsTo}
+use Rattle.pivot_definitions.specs.Duality.{sum_below, objective_of, CombinesToObjective, RowsCombine, BestMultipliersBound}
+use Rattle.pivot_definitions.proofs.Ring.{dif_is, difs, dif_same, linear, positive_from_product, same_from_product}
+use Rattle.pivot_definitions.proofs.Start.{unit_facts, built_coefficient, built_right_side}
+use Rattle.pivot_definitions.proofs.Reached.{reached}
+use Rattle.pivot_definitions.proofs.Signs.{multiple}
+use Rattle.pivot_definitions.proofs.Sums.{sum_same, sum_scaled, sum_negated}
+use Rattle.pivot_definitions.proofs.Duality.{B, U, Combined, combined}
 
 -- the slack entries of the objective row times the rows as built
 abbrev pub S : LinearProgram → SimplexTableau → ℕ → ℤ
@@ -37,9 +30,9 @@ core : (program : LinearProgram) (plain : SimplexTableau) → (all : Combined pr
 core program plain all k =
     let m = multiple plain (length plain.basis) in
     less_sum m.factor (objective (kept plain) k) (S program (kept plain) k) all.scale (U program k)
-      (sym (m.entries k) ∙ all.objective_is k ∙ ap (λ x. all.scale *ℤ U program k +ℤ x)
-        (sum_same program.rows (λ j. objective plain (program.columns + j) *ℤ B program j k) (λ j. (m.factor *ℤ objective (kept plain) (program.columns + j)) *ℤ B program j k) (λ j h. ap (λ x. x *ℤ B program j k) (m.entries (program.columns + j)))
-        ∙ sum_scaled program.rows m.factor (λ j. objective (kept plain) (program.columns + j)) (λ j. B program j k)))
+    (sym (m.entries k) ∙ all.objective_is k ∙ ap (λ x. all.scale *ℤ U program k +ℤ x)
+    (sum_same program.rows (λ j. objective plain (program.columns + j) *ℤ B program j k) (λ j. (m.factor *ℤ objective (kept plain) (program.columns + j)) *ℤ B program j k) (λ j h. ap (λ x. x *ℤ B program j k) (m.entries (program.columns + j)))
+    ∙ sum_scaled program.rows m.factor (λ j. objective (kept plain) (program.columns + j)) (λ j. B program j k)))
 
 abbrev pub scale_of : LinearProgram → SimplexTableau → ℤ
 scale_of program t = objective t 0 -ℤ S program t 0
@@ -71,7 +64,7 @@ pub at_column : (program : LinearProgram) (plain : SimplexTableau) → Combined 
 at_column program plain all k =
     let m = multiple plain (length plain.basis) in
     same_from_product m.factor (objective (kept plain) k -ℤ S program (kept plain) k) (scale_of program (kept plain) *ℤ objective_of k) m.positive
-      (core program plain all k ∙ ap₂ (λ x y. x *ℤ y) (sym (scale_is program plain all)) (unit_is program k) ∙ sym (assoc m.factor (scale_of program (kept plain)) (objective_of k)))
+    (core program plain all k ∙ ap₂ (λ x y. x *ℤ y) (sym (scale_is program plain all)) (unit_is program k) ∙ sym (assoc m.factor (scale_of program (kept plain)) (objective_of k)))
 
 scale_positive : (program : LinearProgram) (plain : SimplexTableau) → Combined program plain → pos 0 <ℤ scale_of program (kept plain)
 scale_positive program plain all = let m = multiple plain (length plain.basis) in positive_from_product m.factor (scale_of program (kept plain)) m.positive (subst (λ z. pos 0 <ℤ z) (sym (scale_is program plain all)) all.positive)
@@ -90,14 +83,16 @@ rows_combine_kept program is capped pivots plain run =
     let held = reached program is capped pivots plain run in
     let all = combined program is capped pivots plain run in
     let some = is.some_column in
-    let wide : column_count plain ≡ program.columns + program.rows = ap₂ (λ a b. a + b) held.columns held.count in
-    (scale_of program (kept plain), record {
-      positive = scale_positive program plain all;
-      columns = λ c h. ap (λ x. objective (kept plain) c +ℤ x) (multiplied program (kept plain) c (λ j. coefficient program j c) held.columns (λ j hj. sym (built_coefficient program is j c hj h))) ∙ add_negative (objective (kept plain) c) (S program (kept plain) c) ∙ at_column program plain all c;
-      right_sides = ap₂ (λ x y. x +ℤ y) (ap (objective (kept plain)) wide) (multiplied program (kept plain) (program.columns + program.rows) (entry program.right_sides) held.columns (λ j hj. sym (built_right_side program is j hj)))
-        ∙ add_negative (objective (kept plain) (program.columns + program.rows)) (S program (kept plain) (program.columns + program.rows)) ∙ at_column program plain all (program.columns + program.rows)
-        ∙ ap (λ x. scale_of program (kept plain) *ℤ x) (sym (unit_is program (program.columns + program.rows)) ∙ (unit_facts program).elsewhere (program.columns + program.rows) (omega arith)) ∙ times_zero (scale_of program (kept plain));
-    })
+    let wide : column_count plain ≡ program.columns + program.rows = ap₂ (λ a b. a + b) held.columns held.count in (
+      scale_of program (kept plain),
+      record {
+        positive = scale_positive program plain all;
+        columns = λ c h. ap (λ x. objective (kept plain) c +ℤ x) (multiplied program (kept plain) c (λ j. coefficient program j c) held.columns (λ j hj. sym (built_coefficient program is j c hj h))) ∙ add_negative (objective (kept plain) c) (S program (kept plain) c) ∙ at_column program plain all c;
+        right_sides = ap₂ (λ x y. x +ℤ y) (ap (objective (kept plain)) wide) (multiplied program (kept plain) (program.columns + program.rows) (entry program.right_sides) held.columns (λ j hj. sym (built_right_side program is j hj)))
+            ∙ add_negative (objective (kept plain) (program.columns + program.rows)) (S program (kept plain) (program.columns + program.rows)) ∙ at_column program plain all (program.columns + program.rows)
+            ∙ ap (λ x. scale_of program (kept plain) *ℤ x) (sym (unit_is program (program.columns + program.rows)) ∙ (unit_facts program).elsewhere (program.columns + program.rows) (omega arith)) ∙ times_zero (scale_of program (kept plain));
+      },
+    )
 
 pub rows_combine : RowsCombine
 rows_combine program tableau (is, capped, pivots, plain, run, kept_is) =

@@ -1,9 +1,8 @@
 -- What a plain pivot does to the entries, the basic columns and the shape of a tableau.
-use Rattle.std.proofs.Common.{◌≡◌, ◌≢◌, ℕ, zero, suc, ◌+◌, ◌-◌, ◌*◌, ◌<◌, ◌≤◌, ◌⊎◌, inl, inr, List, [], ◌∷◌, ◌++◌, map, length, get_or, set, take, drop, refl, sym, ap, ap₂, ◌∙◌, subst, arith}
-use Rattle.std.specs.List.{All}
-use Rattle.std.proofs.lemmas.List.{length-append, length-map, length-take-le, length-drop, length-set, get_or_default, get_or-set_same, get_or-set_other}
-use Rattle.std.proofs.lemmas.List.Elements.{All-append, All-cons, All-nil, All-map, All-take, All-drop, All-get_or, All-set, All-weaker}
-use lib.IntN.{ℤ, pos, ◌-ℤ◌, ◌*ℤ◌}
+use Rattle.std.proofs.Common.{◌≡◌, ◌≢◌, ℕ, zero, suc, ◌+◌, ◌<◌, List, [], ◌∷◌, map, length, get_or, take, drop, refl, sym, ap, ◌∙◌, arith}
+use Rattle.std.proofs.lemmas.List.{length-map, length-set, get_or-set_same, get_or-set_other}
+use Rattle.std.proofs.lemmas.List.Elements.{All-append, All-cons, All-map, All-take, All-drop, All-set, All-weaker}
+use lib.IntN.{ℤ, ◌-ℤ◌, ◌*ℤ◌}
 use Rattle.row_definitions.specs.Rows.{entry}
 use Rattle.row_definitions.specs.Combination.{combination, plain_combination}
 use Rattle.pivot_definitions.specs.Tableaus.{SimplexTableau, IsTableau, row_at, entry_at, basic_column, column_count, others_combined, plain_pivot}
@@ -71,10 +70,10 @@ pivot_facts t is p q row column =
       shape = record {
         row_count = length-others f t.rows p within ∙ is.row_count ∙ ap (λ n. n + 1) (sym same_count);
         widths = All-weaker W (λ r. length r ≡ column_count (plain_pivot t p q) + 1) (λ r e. e ∙ ap (λ n. t.columns + n + 1) (sym same_count)) (plain_pivot t p q).rows
-          (All-append W (map f (take p t.rows)) (row_at t p ∷ map f (drop (suc p) t.rows))
+            (All-append W (map f (take p t.rows)) (row_at t p ∷ map f (drop (suc p) t.rows))
             (All-map W f (take p t.rows) (All-weaker W (λ r. W (f r)) combined_width (take p t.rows) (All-take W p t.rows is.widths)))
             (All-cons W (row_at t p) (map f (drop (suc p) t.rows)) (width t is p within)
-              (All-map W f (drop (suc p) t.rows) (All-weaker W (λ r. W (f r)) combined_width (drop (suc p) t.rows) (All-drop W (suc p) t.rows is.widths)))));
+            (All-map W f (drop (suc p) t.rows) (All-weaker W (λ r. W (f r)) combined_width (drop (suc p) t.rows) (All-drop W (suc p) t.rows is.widths)))));
         basic_columns = All-weaker (λ c. c < column_count t) (λ c. c < column_count (plain_pivot t p q)) (λ c h. omega (arith, same_count)) (plain_pivot t p q).basis (All-set (λ c. c < column_count t) t.basis p q column is.basic_columns);
       };
       columns = refl;

@@ -1,14 +1,13 @@
 -- The kept form of a tableau has its signs and ratios, and so its choices.
-use Rattle.std.proofs.Common.{◌≡◌, ◌≢◌, ℕ, zero, suc, ◌+◌, ◌-◌, ◌*◌, ◌<◌, ◌≤◌, ◌⊎◌, inl, inr, length, refl, sym, ap, ap₂, ◌∙◌, subst, arith}
-use lib.IntN.{ℤ, pos, ◌+ℤ◌, ◌-ℤ◌, ◌*ℤ◌}
+use Rattle.std.proofs.Common.{◌≡◌, ℕ, ◌<◌, inl, inr, length, sym, ap, ap₂, ◌∙◌, subst, arith}
+use lib.IntN.{ℤ, pos, ◌*ℤ◌}
 use lib.Signed.{◌<ℤ◌, ◌≤ℤ◌}
-use borrow.Author.Differences.{same_out}
 use Rattle.row_definitions.specs.Rows.{entry, primitive_row}
 use Rattle.row_definitions.proofs.Primitives.{IsPositiveMultiple-primitive_row, entry-scaled}
-use Rattle.pivot_definitions.specs.Tableaus.{SimplexTableau, IsTableau, row_at, entry_at, right_side, basic_column, column_count, objective, kept}
-use Rattle.pivot_definitions.specs.Runs.{CanLeave, ComesBefore, Leaves, Enters, IsChoice, IsBest}
+use Rattle.pivot_definitions.specs.Tableaus.{SimplexTableau, row_at, entry_at, right_side, column_count, kept}
+use Rattle.pivot_definitions.specs.Runs.{ComesBefore, Leaves, Enters, IsChoice, IsBest}
 use Rattle.pivot_definitions.specs.Feasible.{HasNoNegativeRightSide}
-use Rattle.pivot_definitions.proofs.Ring.{dif_is, difs, dif_same, linear, mul_pos, mul_not_positive, mul_not_negative, positive_from_product, not_positive_from_product, not_negative_from_product, below_from_product, mul_below}
+use Rattle.pivot_definitions.proofs.Ring.{dif_is, difs, dif_same, linear, mul_pos, mul_not_positive, positive_from_product, not_positive_from_product, not_negative_from_product, mul_below}
 use Rattle.pivot_definitions.proofs.KeptForms.{row_kept}
 
 -- a row is a positive multiple of its kept form
@@ -63,9 +62,9 @@ comes_before_plain plain q p i before =
     let here : right_side plain p *ℤ entry_at plain i q ≡ (m.factor *ℤ n.factor) *ℤ (right_side (kept plain) p *ℤ entry_at (kept plain) i q) = ap₂ (λ x y. x *ℤ y) (m.entries right) (n.entries q) ∙ regroup m.factor n.factor (right_side (kept plain) p) (entry_at (kept plain) i q) in
     let there : right_side plain i *ℤ entry_at plain p q ≡ (m.factor *ℤ n.factor) *ℤ (right_side (kept plain) i *ℤ entry_at (kept plain) p q) = ap₂ (λ x y. x *ℤ y) (n.entries right) (m.entries q) ∙ regroup_back m.factor n.factor (right_side (kept plain) i) (entry_at (kept plain) p q) in
     elim before [
-        inl less ↦ inl (subst (λ z. z <ℤ (right_side plain i *ℤ entry_at plain p q)) (sym here) (subst (λ z. ((m.factor *ℤ n.factor) *ℤ (right_side (kept plain) p *ℤ entry_at (kept plain) i q)) <ℤ z) (sym there) (mul_below (m.factor *ℤ n.factor) _ _ (mul_pos m.factor n.factor m.positive n.positive) less)))
+      | inl less ↦ inl (subst (λ z. z <ℤ (right_side plain i *ℤ entry_at plain p q)) (sym here) (subst (λ z. ((m.factor *ℤ n.factor) *ℤ (right_side (kept plain) p *ℤ entry_at (kept plain) i q)) <ℤ z) (sym there) (mul_below (m.factor *ℤ n.factor) _ _ (mul_pos m.factor n.factor m.positive n.positive) less)))
       | inr same ↦ inr (here ∙ ap (λ z. (m.factor *ℤ n.factor) *ℤ z) same.0 ∙ sym there, same.1)
-      ]
+    ]
 
 pub leaves_plain : (plain : SimplexTableau) (q p : ℕ) → Leaves (kept plain) q p → Leaves plain q p
 leaves_plain plain q p leaves = record {

@@ -1,26 +1,26 @@
 -- The basic solution of the kept form of a tableau that a run reaches is one of the program, and column 0 of it is what the multipliers make of the right sides.
-use Rattle.std.proofs.Common.{◌≡◌, ◌≢◌, ℕ, zero, suc, ◌+◌, ◌-◌, ◌*◌, ◌<◌, ◌≤◌, ◌⊎◌, ◌==◌, Option, None, Some, Bool, true, false, cond, inl, inr, length, get_or, refl, sym, ap, ap₂, ◌∙◌, subst, arith}
+use Rattle.std.proofs.Common.{◌≡◌, ◌≢◌, ℕ, ◌+◌, ◌<◌, ◌==◌, Option, None, Some, Bool, true, false, cond, length, get_or, refl, sym, ap, ap₂, ◌∙◌, subst, arith}
 use Rattle.std.specs.List.{position, position_or_len}
 use Rattle.std.specs.Prelude.{MatchOption, nat_lt}
 use Rattle.std.proofs.lemmas.List.Quantifiers.{position-Some}
 use Rattle.std.proofs.lemmas.List.Sums.{position_or_len_is}
 use Rattle.std.proofs.lemmas.Bool.Decides.{nat_tests}
 use borrow.Author.Tests.{eqb-true}
-use lib.IntN.{ℤ, pos, ◌+ℤ◌, ◌-ℤ◌, ◌*ℤ◌, neg_ℤ}
+use lib.IntN.{ℤ, pos, ◌+ℤ◌, ◌*ℤ◌}
 use lib.Signed.{◌<ℤ◌, ◌≤ℤ◌}
 use borrow.Author.Differences.{same_out}
 use Rattle.row_definitions.specs.Rows.{entry}
-use Rattle.pivot_definitions.specs.Programs.{LinearProgram, IsProgram, IsCapped, coefficient, unit_row}
-use Rattle.pivot_definitions.specs.Tableaus.{SimplexTableau, IsTableau, row_at, entry_at, basic_column, column_count, objective, right_side, multiplier_of, IsValueOf, built, built_row, built_objective, kept}
+use Rattle.pivot_definitions.specs.Programs.{LinearProgram, IsProgram, IsCapped, coefficient}
+use Rattle.pivot_definitions.specs.Tableaus.{SimplexTableau, entry_at, basic_column, column_count, right_side, built, kept}
 use Rattle.pivot_definitions.specs.Runs.{RunsTo}
-use Rattle.pivot_definitions.specs.Duality.{sum_below, row_sum, right_side_sum, objective_of, CombinesToObjective, IsSolutionTimes, IsFeasibleTimes, IsReached, BasicSolutionSatisfies, LevelIsBound}
-use Rattle.pivot_definitions.proofs.Ring.{by_eq, dif_is, difs, dif_same, linear, mul_pos, mul_not_negative, not_negative_from_product, same_from_product, at_most_from_product}
+use Rattle.pivot_definitions.specs.Duality.{sum_below, row_sum, IsSolutionTimes, BasicSolutionSatisfies}
+use Rattle.pivot_definitions.proofs.Ring.{dif_is, difs, dif_same, linear, mul_not_negative, not_negative_from_product, same_from_product, at_most_from_product}
 use Rattle.pivot_definitions.proofs.Built.{built_slack, unit_here}
-use Rattle.pivot_definitions.proofs.Start.{row_built, unit_elsewhere, unit_facts, built_coefficient, built_right_side}
+use Rattle.pivot_definitions.proofs.Start.{row_built, unit_elsewhere, built_coefficient, built_right_side}
 use Rattle.pivot_definitions.proofs.Reached.{Reached, reached}
-use Rattle.pivot_definitions.proofs.Signs.{Multiple, multiple, positive_kept, not_negative_kept}
-use Rattle.pivot_definitions.proofs.Sums.{sum_same, sum_scaled, sum_scaled_right, sum_one, sum_none, sum_parts, product_below, product_positive, cofactor, cofactor_is, cofactor_positive}
-use Rattle.pivot_definitions.proofs.Duality.{B, U, Solves, surplus, Combined, combined}
+use Rattle.pivot_definitions.proofs.Signs.{multiple, positive_kept, not_negative_kept}
+use Rattle.pivot_definitions.proofs.Sums.{sum_same, sum_scaled, sum_scaled_right, sum_one, sum_parts, product_below, product_positive, cofactor, cofactor_is, cofactor_positive}
+use Rattle.pivot_definitions.proofs.Duality.{B, Solves, Combined, combined}
 
 zero_times : (x : ℤ) → pos 0 *ℤ x ≡ pos 0
 zero_times x = rw (dif_is x) (simp difs (dif_same _ _ _ _ (omega arith)))
@@ -90,11 +90,11 @@ found_own program plain basic row h =
     let p : ℕ → Bool = λ b. b == c in
     let here : row < length plain.basis = omega (arith, count) in
     let before : (k : ℕ) → k < row → p (get_or plain.basis k 0) ≡ false = λ k hk.
-      (let differ : basic_column plain k ≢ c = λ same.
-        (let z : entry_at plain k (basic_column plain row) ≡ pos 0 = basic.held.feasible.canonical.zero_elsewhere row k here (omega (arith, rows, count)) (omega arith) in
-        let x : pos 0 <ℤ entry_at plain k (basic_column plain row) = subst (λ j. pos 0 <ℤ entry_at plain k j) same (basic.held.feasible.canonical.positive k (omega arith)) in
-        omega (arith, linear, same_out _ _ z, x)) in
-      grind (arith, nat_tests)) in
+    (let differ : basic_column plain k ≢ c = λ same.
+    (let z : entry_at plain k (basic_column plain row) ≡ pos 0 = basic.held.feasible.canonical.zero_elsewhere row k here (omega (arith, rows, count)) (omega arith) in
+    let x : pos 0 <ℤ entry_at plain k (basic_column plain row) = subst (λ j. pos 0 <ℤ entry_at plain k j) same (basic.held.feasible.canonical.positive k (omega arith)) in
+    omega (arith, linear, same_out _ _ z, x)) in
+    grind (arith, nat_tests)) in
     let at : position_or_len p plain.basis ≡ row = position_or_len_is p plain.basis row 0 (omega arith) before (λ _. grind (arith, nat_tests)) in
     let inside : nat_lt (position_or_len p plain.basis) (length plain.basis) ≡ true = grind (arith, nat_tests) in
     ap (λ b. cond b (Some (position_or_len p plain.basis)) None) inside ∙ ap Some at
@@ -116,12 +116,12 @@ pub no_part : (program : LinearProgram) (plain : SimplexTableau) (d : ℤ) → B
 unfolding solution pick
 no_part program plain d basic other k h differ =
     by_row (λ o. entry_at (kept plain) other k *ℤ pick (λ i. (d *ℤ right_side (kept plain) i) *ℤ rest program (kept plain) i) o ≡ pos 0) (row_of plain k)
-      (λ e. times_zero (entry_at (kept plain) other k))
-      (λ row e.
-        let f = found plain k row e in
-        let inside : row < program.rows = omega (arith, f.0, basic.held.count) in
-        let z : entry_at (kept plain) other k ≡ pos 0 = subst (λ j. entry_at (kept plain) other j ≡ pos 0) f.1 (zero_other program plain basic row other inside h (λ same. differ (subst (λ r. r < program.rows) (sym same) inside) (sym f.1 ∙ ap (basic_column plain) (sym same)))) in
-        ap (λ x. x *ℤ ((d *ℤ right_side (kept plain) row) *ℤ rest program (kept plain) row)) z ∙ zero_times ((d *ℤ right_side (kept plain) row) *ℤ rest program (kept plain) row))
+    (λ e. times_zero (entry_at (kept plain) other k))
+    (λ row e.
+    let f = found plain k row e in
+    let inside : row < program.rows = omega (arith, f.0, basic.held.count) in
+    let z : entry_at (kept plain) other k ≡ pos 0 = subst (λ j. entry_at (kept plain) other j ≡ pos 0) f.1 (zero_other program plain basic row other inside h (λ same. differ (subst (λ r. r < program.rows) (sym same) inside) (sym f.1 ∙ ap (basic_column plain) (sym same)))) in
+    ap (λ x. x *ℤ ((d *ℤ right_side (kept plain) row) *ℤ rest program (kept plain) row)) z ∙ zero_times ((d *ℤ right_side (kept plain) row) *ℤ rest program (kept plain) row))
 
 move_factor : (g k r : ℤ) → g *ℤ (k *ℤ r) ≡ k *ℤ (g *ℤ r)
 move_factor g k r = rw (dif_is g, dif_is k, dif_is r) (simp difs (dif_same _ _ _ _ (omega arith)))
@@ -155,12 +155,12 @@ solution_not_negative : (program : LinearProgram) (plain : SimplexTableau) (d : 
 unfolding solution pick
 solution_not_negative program plain d basic positive k =
     by_row (λ o. pos 0 ≤ℤ pick (λ i. (d *ℤ right_side (kept plain) i) *ℤ rest program (kept plain) i) o) (row_of plain k)
-      (λ e. omega (arith, linear))
-      (λ row e.
-        let f = found plain k row e in
-        let inside : row < program.rows = omega (arith, f.0, basic.held.count) in
-        let c = cofactor_positive program.rows row (own (kept plain)) (λ j hj. positive_own program plain basic j hj) in
-        mul_not_negative (d *ℤ right_side (kept plain) row) (rest program (kept plain) row) (mul_not_negative d (right_side (kept plain) row) (omega (arith, linear)) (right_side_kept program plain basic row inside)) (omega (arith, linear, c)))
+    (λ e. omega (arith, linear))
+    (λ row e.
+    let f = found plain k row e in
+    let inside : row < program.rows = omega (arith, f.0, basic.held.count) in
+    let c = cofactor_positive program.rows row (own (kept plain)) (λ j hj. positive_own program plain basic j hj) in
+    mul_not_negative (d *ℤ right_side (kept plain) row) (rest program (kept plain) row) (mul_not_negative d (right_side (kept plain) row) (omega (arith, linear)) (right_side_kept program plain basic row inside)) (omega (arith, linear, c)))
 
 regroup_point : (o p c : ℤ) → (o *ℤ p) *ℤ c ≡ (o *ℤ c) *ℤ p
 regroup_point o p c = rw (dif_is o, dif_is p, dif_is c) (simp difs (dif_same _ _ _ _ (omega arith)))
@@ -170,17 +170,17 @@ pub solution_is : (program : LinearProgram) (plain : SimplexTableau) (d : ℤ) (
 unfolding solution pick
 solution_is program plain d point basic times k h =
     by_row (λ o. ((value : ℤ × ℤ) → MatchOption o (value ≡ (pos 0, pos 1)) (λ row. value ≡ (right_side (kept plain) row, entry_at (kept plain) row k)) → value.1 *ℤ point k ≡ d *ℤ value.0) → o ≡ row_of plain k → pick (λ i. (d *ℤ right_side (kept plain) i) *ℤ rest program (kept plain) i) o ≡ K program (kept plain) *ℤ point k) (row_of plain k)
-      (λ e values is.
-        let none : point k ≡ pos 0 = sym (one_times (point k)) ∙ values (pos 0, pos 1) refl ∙ times_zero d in
-        sym (ap (λ x. K program (kept plain) *ℤ x) none ∙ times_zero (K program (kept plain))))
-      (λ row e values is.
-        let f = found plain k row e in
-        let inside : row < program.rows = omega (arith, f.0, basic.held.count) in
-        let v : entry_at (kept plain) row k *ℤ point k ≡ d *ℤ right_side (kept plain) row = values (right_side (kept plain) row, entry_at (kept plain) row k) refl in
-        ap (λ x. x *ℤ rest program (kept plain) row) (sym v ∙ ap (λ j. entry_at (kept plain) row j *ℤ point k) (sym f.1))
-        ∙ regroup_point (own (kept plain) row) (point k) (rest program (kept plain) row)
-        ∙ ap (λ x. x *ℤ point k) (cofactor_is program.rows row (own (kept plain)) inside))
-      (times.values k h) refl
+    (λ e values is.
+    let none : point k ≡ pos 0 = sym (one_times (point k)) ∙ values (pos 0, pos 1) refl ∙ times_zero d in
+    sym (ap (λ x. K program (kept plain) *ℤ x) none ∙ times_zero (K program (kept plain))))
+    (λ row e values is.
+    let f = found plain k row e in
+    let inside : row < program.rows = omega (arith, f.0, basic.held.count) in
+    let v : entry_at (kept plain) row k *ℤ point k ≡ d *ℤ right_side (kept plain) row = values (right_side (kept plain) row, entry_at (kept plain) row k) refl in
+    ap (λ x. x *ℤ rest program (kept plain) row) (sym v ∙ ap (λ j. entry_at (kept plain) row j *ℤ point k) (sym f.1))
+    ∙ regroup_point (own (kept plain) row) (point k) (rest program (kept plain) row)
+    ∙ ap (λ x. x *ℤ point k) (cofactor_is program.rows row (own (kept plain)) inside))
+    (times.values k h) refl
 
 split_last : (a b c : ℤ) → pos 0 ≤ℤ b → a +ℤ b ≡ c → a ≤ℤ c
 split_last a b c h e = omega (arith, linear, same_out _ _ e)
@@ -193,17 +193,17 @@ satisfied program is plain d point basic times row h =
     let solves = basic.all.back z (k *ℤ d) (solves_plain program plain d basic) row h in
     let at : (c : ℕ) → entry_at (built program) row c ≡ B program row c = λ c. ap (λ r. entry r c) (row_built program row h) in
     let first : sum_below program.columns (λ c. B program row c *ℤ z c) ≡ k *ℤ row_sum program row point =
-      sum_same program.columns (λ c. B program row c *ℤ z c) (λ c. coefficient program row c *ℤ (k *ℤ point c)) (λ c hc. ap₂ (λ x y. x *ℤ y) (built_coefficient program is row c h hc) (solution_is program plain d point basic times c hc))
-      ∙ sum_scaled_right program.columns k (λ c. coefficient program row c) point in
+    sum_same program.columns (λ c. B program row c *ℤ z c) (λ c. coefficient program row c *ℤ (k *ℤ point c)) (λ c hc. ap₂ (λ x y. x *ℤ y) (built_coefficient program is row c h hc) (solution_is program plain d point basic times c hc))
+    ∙ sum_scaled_right program.columns k (λ c. coefficient program row c) point in
     let second : sum_below program.rows (λ j. B program row (program.columns + j) *ℤ z (program.columns + j)) ≡ z (program.columns + row) =
-      sum_one program.rows row (λ j. B program row (program.columns + j) *ℤ z (program.columns + j)) h (λ j hj differ. ap (λ x. x *ℤ z (program.columns + j)) (built_slack program is row j h hj ∙ unit_elsewhere program.rows row j differ) ∙ zero_times (z (program.columns + j)))
-      ∙ ap (λ x. x *ℤ z (program.columns + row)) (built_slack program is row row h h ∙ unit_here program.rows row) ∙ one_times (z (program.columns + row)) in
+    sum_one program.rows row (λ j. B program row (program.columns + j) *ℤ z (program.columns + j)) h (λ j hj differ. ap (λ x. x *ℤ z (program.columns + j)) (built_slack program is row j h hj ∙ unit_elsewhere program.rows row j differ) ∙ zero_times (z (program.columns + j)))
+    ∙ ap (λ x. x *ℤ z (program.columns + row)) (built_slack program is row row h h ∙ unit_here program.rows row) ∙ one_times (z (program.columns + row)) in
     let whole : k *ℤ row_sum program row point +ℤ z (program.columns + row) ≡ k *ℤ (d *ℤ entry program.right_sides row) =
-      ap₂ (λ x y. x +ℤ y) (sym first) (sym second) ∙ sym (sum_parts program.columns program.rows (λ c. B program row c *ℤ z c))
-      ∙ sum_same n (λ c. B program row c *ℤ z c) (λ c. entry_at (built program) row c *ℤ z c) (λ c hc. ap (λ x. x *ℤ z c) (sym (at c)))
-      ∙ solves ∙ ap (λ x. (k *ℤ d) *ℤ x) (at n ∙ built_right_side program is row h) ∙ sym (assoc k d (entry program.right_sides row)) in
+    ap₂ (λ x y. x +ℤ y) (sym first) (sym second) ∙ sym (sum_parts program.columns program.rows (λ c. B program row c *ℤ z c))
+    ∙ sum_same n (λ c. B program row c *ℤ z c) (λ c. entry_at (built program) row c *ℤ z c) (λ c hc. ap (λ x. x *ℤ z c) (sym (at c)))
+    ∙ solves ∙ ap (λ x. (k *ℤ d) *ℤ x) (at n ∙ built_right_side program is row h) ∙ sym (assoc k d (entry program.right_sides row)) in
     at_most_from_product k (row_sum program row point) (d *ℤ entry program.right_sides row) (K_positive program plain basic)
-      (split_last (k *ℤ row_sum program row point) (z (program.columns + row)) (k *ℤ (d *ℤ entry program.right_sides row)) (solution_not_negative program plain d basic times.positive (program.columns + row)) whole)
+    (split_last (k *ℤ row_sum program row point) (z (program.columns + row)) (k *ℤ (d *ℤ entry program.right_sides row)) (solution_not_negative program plain d basic times.positive (program.columns + row)) whole)
 
 point_not_negative : (program : LinearProgram) (plain : SimplexTableau) (d : ℤ) (point : ℕ → ℤ) → Basic program plain → IsSolutionTimes program (kept plain) d point → (k : ℕ) → k < program.columns → pos 0 ≤ℤ point k
 point_not_negative program plain d point basic times k h =

@@ -1,15 +1,15 @@
 -- The tableau of a program as built: its entries, its basic columns, its right sides and its cap.
-use Rattle.std.proofs.Common.{◌≡◌, ◌≢◌, ℕ, zero, suc, ◌+◌, ◌-◌, ◌*◌, ◌<◌, ◌≤◌, ◌⊎◌, inl, inr, List, [], ◌∷◌, ◌++◌, map, length, get_or, set, take, drop, replicate, refl, sym, ap, ap₂, ◌∙◌, subst, arith}
-use Rattle.std.specs.List.{All, range_with_len}
-use Rattle.std.proofs.lemmas.List.{length-append, length-map, length-replicate, get_or_default, get_or_append_left, get_or-append_right, get_or_at, get_or-replicate}
+use Rattle.std.proofs.Common.{◌≡◌, ◌≢◌, ℕ, zero, suc, ◌+◌, ◌-◌, ◌<◌, inl, inr, [], ◌∷◌, ◌++◌, map, length, replicate, refl, sym, ap, ap₂, ◌∙◌, subst, arith}
+use Rattle.std.specs.List.{range_with_len}
+use Rattle.std.proofs.lemmas.List.{length-append, length-replicate, get_or_append_left, get_or-append_right, get_or_at}
 use Rattle.std.proofs.lemmas.List.FromFn.{length-map-range_with_len, get_or-map-range_with_len, get_or-range_with_len}
 use Rattle.std.proofs.lemmas.Bool.{cases_lt}
-use lib.IntN.{ℤ, pos, ◌-ℤ◌, ◌*ℤ◌}
-use lib.Signed.{◌<ℤ◌, ◌≤ℤ◌}
+use lib.IntN.{pos}
+use lib.Signed.{◌≤ℤ◌}
 use Rattle.row_definitions.specs.Rows.{entry}
 use Rattle.pivot_definitions.specs.Programs.{LinearProgram, IsProgram, IsCapped, coefficient_row, unit_row}
-use Rattle.pivot_definitions.specs.Tableaus.{SimplexTableau, IsTableau, row_at, entry_at, basic_column, column_count, objective, right_side, built, built_row, built_objective}
-use Rattle.pivot_definitions.specs.Feasible.{IsCanonical, HasNoNegativeRightSide, IsFeasible}
+use Rattle.pivot_definitions.specs.Tableaus.{row_at, entry_at, basic_column, right_side, built, built_row, built_objective}
+use Rattle.pivot_definitions.specs.Feasible.{IsFeasible}
 use borrow.Author.Differences.{same_out}
 use Rattle.pivot_definitions.proofs.Ring.{by_eq, linear}
 use Rattle.pivot_definitions.proofs.Built.{length-range, length-unit, length-coefficients, built-IsTableau, unit_here, built_slack}
@@ -26,9 +26,9 @@ after_one n (suc k) h = zeros n k
 
 pub unit_elsewhere : (width column k : ℕ) → k ≢ column → entry (unit_row width column) k ≡ pos 0
 unit_elsewhere width column k differ = elim (cases_lt k column) [
-    inl before ↦ get_or_append_left (replicate column (pos 0)) (pos 1 ∷ replicate (width - 1 - column) (pos 0)) (pos 0) k (omega (arith, length-replicate column (pos 0))) ∙ zeros column k
+  | inl before ↦ get_or_append_left (replicate column (pos 0)) (pos 1 ∷ replicate (width - 1 - column) (pos 0)) (pos 0) k (omega (arith, length-replicate column (pos 0))) ∙ zeros column k
   | inr after ↦ get_or-append_right (replicate column (pos 0)) (pos 1 ∷ replicate (width - 1 - column) (pos 0)) column k (pos 0) (length-replicate column (pos 0)) after ∙ after_one (width - 1 - column) (k - column) (omega arith)
-  ]
+]
 
 pub unit_facts : (program : LinearProgram) → UnitFacts (entry (built_objective program))
 unit_facts program = record { at_level = refl; elsewhere = after_one (program.columns + program.rows) }
@@ -63,20 +63,20 @@ built_feasible program is =
       shape = shape;
       canonical = record {
         positive = λ i h.
-          (let row : i < program.rows = omega (arith, count) in
-          let e : entry_at (built program) i (basic_column (built program) i) ≡ pos 1 = ap₂ entry (row_built program i row) (basic_built program i row) ∙ built_slack program is i i row row ∙ unit_here program.rows i in
-          omega (arith, linear, same_out _ _ e));
+            (let row : i < program.rows = omega (arith, count) in
+            let e : entry_at (built program) i (basic_column (built program) i) ≡ pos 1 = ap₂ entry (row_built program i row) (basic_built program i row) ∙ built_slack program is i i row row ∙ unit_here program.rows i in
+            omega (arith, linear, same_out _ _ e));
         zero_elsewhere = λ i j h k differ.
-          (let row : i < program.rows = omega (arith, count) in
-          by_eq j program.rows
+            (let row : i < program.rows = omega (arith, count) in
+            by_eq j program.rows
             (λ last. ap₂ entry (ap (row_at (built program)) last ∙ objective_built program) (basic_built program i row) ∙ (unit_facts program).elsewhere (program.columns + i) (let some = is.some_column in omega arith))
             (λ other. let row_j : j < program.rows = omega (arith, count, shape.row_count) in
-              ap₂ entry (row_built program j row_j) (basic_built program i row) ∙ built_slack program is j i row_j row ∙ unit_elsewhere program.rows j i (λ e. differ (sym e))));
+            ap₂ entry (row_built program j row_j) (basic_built program i row) ∙ built_slack program is j i row_j row ∙ unit_elsewhere program.rows j i (λ e. differ (sym e))));
       };
       right_sides = λ i h.
-        (let row : i < program.rows = omega (arith, count) in
-        let e : right_side (built program) i ≡ entry program.right_sides i = ap₂ entry (row_built program i row) (ap (λ n. program.columns + n) count) ∙ built_right_side program is i row in
-        subst (λ z. pos 0 ≤ℤ z) (sym e) (is.not_negative i (pos 0) (omega (arith, is.every_right_side))));
+          (let row : i < program.rows = omega (arith, count) in
+          let e : right_side (built program) i ≡ entry program.right_sides i = ap₂ entry (row_built program i row) (ap (λ n. program.columns + n) count) ∙ built_right_side program is i row in
+          subst (λ z. pos 0 ≤ℤ z) (sym e) (is.not_negative i (pos 0) (omega (arith, is.every_right_side))));
     }
 
 -- the cap's row as built
@@ -89,9 +89,9 @@ cap_facts program is capped =
       at_level = built_coefficient program is (program.rows - 1) 0 last some_column ∙ ap (λ r. entry r 0) capped.cap ∙ unit_here program.columns 0;
       at_slack = built_slack program is (program.rows - 1) (program.rows - 1) last last ∙ unit_here program.rows (program.rows - 1);
       elsewhere = λ k within not_level not_slack. elim (cases_lt k program.columns) [
-          inl column ↦ built_coefficient program is (program.rows - 1) k last column ∙ ap (λ r. entry r k) capped.cap ∙ unit_elsewhere program.columns 0 k not_level
+        | inl column ↦ built_coefficient program is (program.rows - 1) k last column ∙ ap (λ r. entry r k) capped.cap ∙ unit_elsewhere program.columns 0 k not_level
         | inr after ↦
             (let e : program.columns + (k - program.columns) ≡ k = omega arith in
             ap (entry (built_row program (program.rows - 1))) (sym e) ∙ built_slack program is (program.rows - 1) (k - program.columns) last (omega arith) ∙ unit_elsewhere program.rows (program.rows - 1) (k - program.columns) (omega arith))
-        ];
+      ];
     }

@@ -1,13 +1,13 @@
 -- Multipliers that are not negative bound column 0 of every solution of the program.
-use Rattle.std.proofs.Common.{◌≡◌, ◌≢◌, ℕ, zero, suc, ◌+◌, ◌-◌, ◌*◌, ◌<◌, ◌≤◌, refl, sym, ap, ap₂, ◌∙◌, subst, arith}
+use Rattle.std.proofs.Common.{◌≡◌, ◌≢◌, ℕ, zero, suc, ◌<◌, refl, ap, ap₂, ◌∙◌, arith}
 use lib.IntN.{ℤ, pos, ◌+ℤ◌, ◌-ℤ◌, ◌*ℤ◌}
-use lib.Signed.{◌<ℤ◌, ◌≤ℤ◌}
+use lib.Signed.{◌≤ℤ◌}
 use borrow.Author.Differences.{same_out}
 use Rattle.row_definitions.specs.Rows.{entry}
-use Rattle.pivot_definitions.specs.Programs.{LinearProgram, IsProgram, coefficient}
-use Rattle.pivot_definitions.specs.Duality.{sum_below, row_sum, column_sum, right_side_sum, objective_of, BoundsObjective, IsFeasibleTimes, BoundHolds}
+use Rattle.pivot_definitions.specs.Programs.{coefficient}
+use Rattle.pivot_definitions.specs.Duality.{sum_below, row_sum, column_sum, objective_of, BoundHolds}
 use Rattle.pivot_definitions.proofs.Ring.{dif_is, difs, dif_same, linear, mul_not_negative}
-use Rattle.pivot_definitions.proofs.Sums.{sum_same, sum_scaled, sum_scaled_right, sum_one, sum_none}
+use Rattle.pivot_definitions.proofs.Sums.{sum_scaled, sum_scaled_right, sum_one, sum_none}
 
 zero_times : (x : ℤ) → pos 0 *ℤ x ≡ pos 0
 zero_times x = rw (dif_is x) (simp difs (dif_same _ _ _ _ (omega arith)))
@@ -55,7 +55,7 @@ no_objective (suc k) differ = refl
 pub bound_holds : BoundHolds
 bound_holds program multiplier scale times point is bounds solution =
     let level : sum_below program.columns (λ c. (scale *ℤ objective_of c) *ℤ point c) ≡ scale *ℤ point 0 =
-      sum_one program.columns 0 (λ c. (scale *ℤ objective_of c) *ℤ point c) is.some_column (λ c h differ. ap (λ x. (scale *ℤ x) *ℤ point c) (no_objective c differ) ∙ none scale (point c)) ∙ times_one scale (point 0) in
+    sum_one program.columns 0 (λ c. (scale *ℤ objective_of c) *ℤ point c) is.some_column (λ c h differ. ap (λ x. (scale *ℤ x) *ℤ point c) (no_objective c differ) ∙ none scale (point c)) ∙ times_one scale (point 0) in
     let columns = sum_at_most program.columns (λ c. (scale *ℤ objective_of c) *ℤ point c) (λ c. column_sum program multiplier c *ℤ point c) (λ c h. times_left (scale *ℤ objective_of c) (column_sum program multiplier c) (point c) (bounds.covers c h) (solution.not_negative c h)) in
     let change = swapped program.columns program.rows multiplier (coefficient program) point in
     let rows = sum_at_most program.rows (λ r. multiplier r *ℤ row_sum program r point) (λ r. multiplier r *ℤ (times *ℤ entry program.right_sides r)) (λ r h. times_right (multiplier r) (row_sum program r point) (times *ℤ entry program.right_sides r) (bounds.not_negative r h) (solution.satisfies r h)) in

@@ -1,5 +1,5 @@
 -- What a tableau of a run says of its program: its multipliers combine the rows into the objective, and its basic solution is one of the program.
-use Rattle.std.specs.Prelude.{◌≡◌, ℕ, zero, suc, ◌+◌, ◌<◌, ℤ, pos, ◌+ℤ◌, ◌*ℤ◌, ◌<ℤ◌, ◌≤ℤ◌}
+use Rattle.std.specs.Prelude.{◌≡◌, ℕ, zero, suc, ◌<◌, ℤ, pos, ◌+ℤ◌, ◌*ℤ◌, ◌<ℤ◌, ◌≤ℤ◌}
 use Rattle.row_definitions.specs.Rows.{entry}
 use Rattle.pivot_definitions.specs.Programs.{LinearProgram, IsProgram, IsCapped, coefficient}
 use Rattle.pivot_definitions.specs.Tableaus.{SimplexTableau, column_count, objective, multiplier_of, IsValueOf, built, kept}

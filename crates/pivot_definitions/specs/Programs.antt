@@ -1,5 +1,5 @@
 -- Linear programs in whole numbers: column 0 is to be as large as possible, where no column is below 0 and each row's sum is at most its right side.
-use Rattle.std.specs.Prelude.{◌≡◌, ℕ, ◌+◌, ◌-◌, ◌*◌, ◌<◌, ◌≤◌, List, [], ◌∷◌, ◌++◌, length, take, drop, replicate, ℤ, pos, ◌≤ℤ◌}
+use Rattle.std.specs.Prelude.{◌≡◌, ℕ, ◌-◌, ◌*◌, ◌<◌, ◌≤◌, List, ◌∷◌, ◌++◌, length, take, drop, replicate, ℤ, pos, ◌≤ℤ◌}
 use Rattle.std.specs.List.{All}
 use Rattle.row_definitions.specs.Rows.{entry}
 use Rattle.row_definitions.specs.Combination.{FitsEntry}

@@ -1,6 +1,5 @@
 -- Runs of pivots by Bland's rule, and their ends.
-use Rattle.std.specs.Prelude.{◌≡◌, ◌≢◌, ℕ, zero, suc, ◌+◌, ◌<◌, ◌≤◌, ◌⊎◌, length, pos, ◌<ℤ◌, ◌≤ℤ◌, ◌*ℤ◌}
-use Rattle.std.specs.List.{All}
+use Rattle.std.specs.Prelude.{◌≡◌, ◌≢◌, ℕ, zero, suc, ◌<◌, ◌≤◌, ◌⊎◌, length, pos, ◌<ℤ◌, ◌≤ℤ◌, ◌*ℤ◌}
 use Rattle.pivot_definitions.specs.Tableaus.{SimplexTableau, column_count, entry_at, right_side, objective, basic_column, plain_pivot, kept, PivotFits, PivotPassesFirst}
 
 -- no entry of the objective row but the right side's is above 0: nothing is left to choose

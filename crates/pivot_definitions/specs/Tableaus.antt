@@ -1,8 +1,8 @@
 -- The simplex tableau of a program, over whole numbers without bound, and its pivots, in which nothing is divided.
-use Rattle.std.specs.Prelude.{◌≡◌, ◌≢◌, ℕ, suc, ◌+◌, ◌-◌, ◌<◌, ◌≤◌, ◌==◌, List, [], ◌∷◌, ◌++◌, length, map, take, drop, replicate, slice_index, slice_index_or, slice_set, position, MatchOption, ℤ, pos, neg_ℤ, ◌≤ℤ◌}
+use Rattle.std.specs.Prelude.{◌≡◌, ◌≢◌, ℕ, suc, ◌+◌, ◌<◌, ◌≤◌, ◌==◌, List, [], ◌∷◌, ◌++◌, length, map, take, drop, replicate, slice_index, slice_index_or, slice_set, position, MatchOption, ℤ, pos, neg_ℤ}
 use Rattle.std.specs.List.{All, range_with_len}
 use Rattle.row_definitions.specs.Rows.{entry, primitive_row}
-use Rattle.row_definitions.specs.Combination.{FitsEntry, plain_combination, combined, PassesNowhere, PassesFirst}
+use Rattle.row_definitions.specs.Combination.{FitsEntry, plain_combination, PassesNowhere, PassesFirst}
 use Rattle.pivot_definitions.specs.Programs.{LinearProgram, coefficient_row, unit_row}
 
 -- a tableau: the constraint rows and, last, the objective row, over the program's columns, a slack column for each constraint row and the right side; and the basic column of each constraint row

@@ -30,8 +30,7 @@ pub fn kept_form_law()
 pub fn run_law()
     ensures choice { ChoiceIsOne }
     ensures run { RunIsOne }
-{
-}
+{}
 
 /// What a tableau of a run says of its program (linear programming duality). Its multipliers combine the rows into a
 /// positive multiple of the objective; where nothing is left to choose they are not negative, and so the right sides bound
@@ -42,5 +41,4 @@ pub fn duality_law()
     ensures basic_solution_satisfies { BasicSolutionSatisfies }
     ensures level_is_bound { LevelIsBound }
     ensures bound_holds { BoundHolds }
-{
-}
+{}

@@ -1,10 +1,8 @@
 -- The three ends of a run exclude one another.
-use Rattle.std.proofs.Common.{◌≡◌, ℕ, refl, sym, ap, ◌∙◌}
-use Rattle.pivot_definitions.specs.Tableaus.{SimplexTableau}
+use Rattle.std.proofs.Common.{sym, ap, ◌∙◌}
 use Rattle.pivot_definitions.proofs.One.{best_best, best_wide, best_out, wide_wide, wide_out}
-use Rattle.pivot_rule.specs.declared.bland.RunEnd.{RunEnd}
 use Rattle.pivot_rule.specs.declared.bland.RunEnd.TheVariants.{Best, Wide, OutOfPivots}
-use Rattle.pivot_rule.specs.Ends.{EndsAs, EndIsOne}
+use Rattle.pivot_rule.specs.Ends.{EndIsOne}
 
 pub end_is_one : EndIsOne
 end_is_one start budget (Best n) (Best k) t u first second = ap Best (best_best start budget n k t u first second)

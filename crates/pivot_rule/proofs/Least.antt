@@ -1,5 +1,5 @@
 -- The least ratio of the rows seen so far.
-use Rattle.std.proofs.Common.{◌≡◌, ◌≢◌, ℕ, ◌+◌, ◌*◌, ◌<◌, ◌≤◌, ◌⊎◌, inl, inr, Option, None, Some, IfSome, IfNone, MatchBool, IsTrue, Bool, true, false, refl, sym, ap, ◌∙◌, subst, arith, lt_trans}
+use Rattle.std.proofs.Common.{◌≡◌, ◌≢◌, ℕ, ◌+◌, ◌<◌, ◌⊎◌, inl, inr, Option, None, Some, IfSome, IfNone, MatchBool, IsTrue, Bool, true, false, sym, ap, ◌∙◌, subst, arith, lt_trans}
 use lib.IntN.{ℤ, pos, ◌*ℤ◌}
 use lib.Signed.{◌<ℤ◌, ◌≤ℤ◌}
 use borrow.Author.Differences.{same_out}

@@ -1,5 +1,5 @@
 -- The steps and the ends of a run.
-use Rattle.std.proofs.Common.{◌≡◌, ◌≢◌, ℕ, zero, suc, ◌+◌, ◌<◌, ◌≤◌, List, [], ◌∷◌, map, length, refl, sym, ap, ap₂, ◌∙◌, subst, arith, add-one}
+use Rattle.std.proofs.Common.{◌≡◌, ℕ, ◌+◌, ◌<◌, ◌≤◌, List, [], ◌∷◌, map, refl, sym, ap, ap₂, ◌∙◌, subst, arith, add-one}
 use Rattle.std.specs.List.{All}
 use Rattle.std.proofs.lemmas.List.Elements.{All-head, All-tail}
 use lib.IntN.{ℤ, pos}
@@ -7,8 +7,8 @@ use lib.Signed.{◌<ℤ◌}
 use borrow.Author.Differences.{same_out}
 use Rattle.row_definitions.specs.Rows.{primitive_row}
 use Rattle.pivot_definitions.specs.Programs.{LinearProgram, IsProgram, IsCapped}
-use Rattle.pivot_definitions.specs.Tableaus.{SimplexTableau, IsTableau, HasPrimitiveRows, entry_at, basic_column, column_count, built, kept, plain_pivot, IsKeptPivot, PivotFits, PivotPassesFirst}
-use Rattle.pivot_definitions.specs.Runs.{Enters, CanLeave, IsChoice, IsBest, RunsTo, HasChoice, EndsBest, EndsWide, EndsOutOfPivots}
+use Rattle.pivot_definitions.specs.Tableaus.{SimplexTableau, IsTableau, entry_at, basic_column, built, kept, plain_pivot, IsKeptPivot, PivotFits, PivotPassesFirst}
+use Rattle.pivot_definitions.specs.Runs.{IsChoice, IsBest, RunsTo, EndsBest, EndsWide, EndsOutOfPivots}
 use Rattle.pivot_definitions.specs.Feasible.{IsCanonical}
 use Rattle.pivot_definitions.proofs.Ring.{linear}
 use Rattle.pivot_definitions.proofs.Built.{built-HasPrimitiveRows}

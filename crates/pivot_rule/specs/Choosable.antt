@@ -1,6 +1,6 @@
 -- What a choice of a pivot needs to know of a tableau.
 use Rattle.std.specs.Prelude.{◌≢◌, ℕ, ◌<◌, length}
-use Rattle.pivot_definitions.specs.Tableaus.{SimplexTableau, basic_column, column_count}
+use Rattle.pivot_definitions.specs.Tableaus.{SimplexTableau, basic_column}
 use Rattle.pivot_definitions.specs.Runs.{Enters, CanLeave}
 use Rattle.pivot_definitions.specs.Feasible.{HasNoNegativeRightSide}
 

@@ -1,8 +1,8 @@
 ghost use Rattle.std.specs.Prelude.{◌≡◌};
 ghost use Rattle.pivot_rule.specs.Ends.{IsCappedStart, RunEndsAs, BestIsBest, EndIsOne};
 
-use crate::choice::{Choice, choose};
-use fraction_tableau::{Passed2, Tableau};
+use crate::choice::choose;
+use fraction_tableau::Tableau;
 
 /// How a run ended.
 #[derive(Clone, Copy, Debug, PartialEq, Eq)]

@@ -48,7 +48,9 @@ fn level(rt: &impl Abort, tableau: &Tableau) -> (i128, i128) {
 }
 
 // Three results and three offers: each gains 1 at two of them and loses 2 at the third, so no stakes gain at all three.
-fn three_way(alloc: Global) -> Result<Tableau, Fail> {
+fn three_way(alloc: Global) -> Result<Tableau, Fail>
+    ensures { IfOk result IsCappedStart }
+{
     started(
         alloc,
         4,

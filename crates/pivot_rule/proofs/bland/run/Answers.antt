@@ -1,5 +1,4 @@
-use Rattle.std.proofs.Common.{◌≡◌, ℕ, ◌<◌, ◌≤◌, arith, subst}
-use Rattle.pivot_definitions.specs.Tableaus.{SimplexTableau}
+use Rattle.std.proofs.Common.{◌≡◌, ℕ, arith, subst}
 use Rattle.pivot_rule.proofs.Steps.{RunSoFar, run_none, run_choosable, run_more, ends_best, ends_wide, ends_out}
 use Rattle.pivot_rule.proofs.bland.run.Goals as goal
 

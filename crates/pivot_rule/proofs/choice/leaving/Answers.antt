@@ -1,4 +1,4 @@
-use Rattle.std.proofs.Common.{◌≡◌, ℕ, ◌+◌, ◌<◌, Option, None, Some, sym, subst, arith}
+use Rattle.std.proofs.Common.{ℕ, ◌+◌, Option, sym, subst, arith}
 use Rattle.std.proofs.lemmas.Int.{ints}
 use lib.IntN.{ℤ, pos}
 use lib.Signed.{◌<ℤ◌, ◌≤ℤ◌}
