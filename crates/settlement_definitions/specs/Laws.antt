@@ -7,7 +7,7 @@ use Rattle.scan_types.specs.declared.outcome.Outcome.TheVariants.{Full, Abandone
 use Rattle.scan_types.specs.declared.offer.Offer.{Offer}
 use Rattle.settlement_definitions.specs.declared.leg_result.LegResult.{LegResult}
 use Rattle.settlement_definitions.specs.declared.leg_result.LegResult.TheVariants.{Push}
-use Rattle.settlement_definitions.specs.Decision.{IsDecided}
+use Rattle.settlement_definitions.specs.Decided.{IsDecided}
 use Rattle.settlement_definitions.specs.Abandonment.{leg_at}
 use Rattle.settlement_definitions.specs.Gain.{gain}
 

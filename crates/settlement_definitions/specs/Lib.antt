@@ -1,5 +1,7 @@
 pub mod Legs
-pub mod Decision
+pub mod LegSigns
+pub mod Decided
+pub mod LaterGoals
 pub mod Abandonment
 pub mod Gain
 pub mod Arbitrage

@@ -1,7 +1,7 @@
 //! What the settlement rules of football books mean, as definitions that know no code, and their laws.
 //!
 //! - `specs/Legs`: the two legs of a bet, and how a leg goes at a final score.
-//! - `specs/Decision`, `specs/Abandonment`: what is decided before the end, and the three rules on an
+//! - `specs/Decided`, `specs/Abandonment`: what is decided before the end, and the three rules on an
 //!   abandoned match.
 //! - `specs/Gain`: gain, payment and net of a bet.
 //! - `specs/Arbitrage`, `specs/Measure`, `specs/Verdicts`: arbitrage, price measures, right verdicts.
