@@ -1,0 +1,3 @@
+pub mod StandIns
+pub mod Classes
+pub mod Laws

@@ -1,0 +1,1 @@
+use crate::stand_for;
