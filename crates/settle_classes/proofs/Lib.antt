@@ -3,3 +3,4 @@ pub mod Cover
 pub mod Sums
 pub mod Distinct
 pub mod Alike
+pub mod Kept

@@ -1,11 +1,14 @@
 use Rattle.std.proofs.Common.{ℕ, ◌≡◌, ◌+◌, ◌-◌, ◌<◌, ◌≤◌, Bool, true, false, zero, suc, List, [], ◌∷◌, ◌++◌, map, length, get_or, refl, sym, ap, subst, ◌∙◌, arith, length-append, ◌&&◌, ◌||◌}
 use Rattle.std.specs.Prelude.{nat_le, ◌==◌, slice_get, Some, None, Contains, if◌then◌else◌}
 use Rattle.std.specs.List.{list_all, list_any}
-use Rattle.std.proofs.lemmas.List.{length-map}
+use Rattle.std.proofs.Common.{take}
+use Rattle.std.proofs.lemmas.List.{length-map, take_all}
 use Rattle.std.proofs.Common.{inl, inr}
 use Rattle.std.proofs.lemmas.Bool.{cases_lt}
 use Rattle.std.proofs.lemmas.Bool.Decides.{nat_tests}
-use Rattle.std.proofs.lemmas.Option.{slice_get_within, get_or_from_slice_get}
+use Rattle.std.specs.Bool.{Decides}
+use Rattle.std.proofs.lemmas.Bool.Decides.{Decides-and, Decides-by_and}
+use Rattle.std.proofs.lemmas.Option.{slice_get-get_or, slice_get_within, get_or_from_slice_get}
 use Rattle.scan_types.specs.declared.outcome.Outcome.{Outcome}
 use Rattle.scan_types.specs.declared.outcome.Outcome.TheVariants.{Full, Abandoned}
 use Rattle.settle_classes.specs.StandIns.{stand_scores, stand_ins, stand_for, stand_score, lead_step, high_home, high_away}
@@ -31,6 +34,10 @@ Contains-from_slice_get xs k x h = (k, slice_get_within xs k x h, get_or_from_sl
 pub length-stand_scores : length stand_scores ≡ 49
 unfolding stand_scores
 length-stand_scores = refl
+
+pub length-stand_ins : length stand_ins ≡ 98
+unfolding stand_ins stand_scores
+length-stand_ins = refl
 
 -- a stand-in of a number below 49 is the final score of that number
 pub stand_ins-final : (k : ℕ) (s : ℕ × ℕ) → slice_get stand_scores k ≡ Some s → slice_get stand_ins k ≡ Some (Full s.0 s.1)
@@ -128,3 +135,27 @@ each_has_stand_in (Full h a) =
 each_has_stand_in (Abandoned h a) =
     let at = stand_score_found h a in
     Contains-from_slice_get stand_ins (49 + at.0) _ (stand_ins-abandoned at.0 (stand_score h a) at.1)
+
+Decides-nat_le : (a b : ℕ) → Decides (nat_le a b) (a ≤ b)
+Decides-nat_le a b = (λ h. grind (arith, nat_tests), λ h. grind (arith, nat_tests))
+
+abbrev is_small : ℕ × ℕ → Bool
+is_small s = nat_le s.0 7 && nat_le s.1 7
+
+small_table : list_all is_small stand_scores ≡ true
+unfolding stand_scores
+small_table = refl
+
+-- no side has more than seven goals in the table
+pub small_at : (k : ℕ) (s : ℕ × ℕ) → slice_get stand_scores k ≡ Some s → (s.0 ≤ 7) × (s.1 ≤ 7)
+small_at k s h =
+    let IsSmall : ℕ × ℕ → Type 0 = λ s. (s.0 ≤ 7) × (s.1 ≤ 7) in
+    let all = (Decides-by_and is_small IsSmall (list_all is_small) (λ s. Decides-and _ _ (Decides-nat_le s.0 7) (Decides-nat_le s.1 7)) refl (λ _ _. refl) stand_scores).0 small_table in
+    subst IsSmall (get_or_from_slice_get stand_scores k s s h) (all k s (slice_get_within stand_scores k s h))
+
+pub slice_get-stand_scores : (k : ℕ) (d : ℕ × ℕ) → k < 49 → slice_get stand_scores k ≡ Some (get_or stand_scores k d)
+slice_get-stand_scores k d lt = let long = length-stand_scores in slice_get-get_or stand_scores k d (omega arith)
+
+-- all 98 stand-ins
+pub take-stand_ins_all : (k : ℕ) → 98 ≤ k → take k stand_ins ≡ stand_ins
+take-stand_ins_all k all = let long = length-stand_ins in take_all k stand_ins (omega arith)

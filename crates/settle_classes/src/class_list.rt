@@ -1,7 +1,7 @@
 ghost use Rattle.std.specs.Prelude.{◌≡◌, IfOk};
 ghost use Rattle.settle_classes.specs.Classes.{classes_of};
 
-use crate::row::{Row, settlement};
+use crate::row::{is_kept, settlement};
 use crate::stand_ins::{STAND_INS, stand_in};
 use scan_types::{Outcome, Sheet, WantOfMemory};
 use std::alloc::Global;
@@ -46,7 +46,7 @@ pub fn classes(alloc: Global, sheet: &Sheet) -> Result<ClassList, WantOfMemory>
     for k in 0..STAND_INS {
         let outcome = stand_in(k);
         let row = settlement(alloc, offers, outcome)?;
-        if !rows.contains(&row) {
+        if !is_kept(&rows, &row) {
             outcomes.push(outcome)?;
             rows.push(row)?;
         }

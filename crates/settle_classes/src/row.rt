@@ -1,4 +1,6 @@
+ghost use Rattle.std.specs.List.{list_any};
 ghost use Rattle.std.specs.Prelude.{◌≡◌, IfOk, map};
+ghost use Rattle.settle_classes.specs.Rows.{parts_of, same_settlement};
 ghost use Rattle.settle_classes.specs.StandIns.{is_final};
 ghost use Rattle.settlement_definitions.specs.Gain.{gain};
 ghost use Rattle.settlement_definitions.specs.Measure.{HasScoresInRange};
@@ -39,4 +41,11 @@ pub fn settlement(
         is_final: is_final(outcome),
         gains,
     })
+}
+
+/// Whether one of the rows settles as this one does: compares each up to the first gain that differs.
+pub fn is_kept(rows: &[Row], row: &Row) -> bool
+    ensures { result ≡ list_any (λ y. same_settlement (parts_of y) (parts_of row.now)) rows.now }
+{
+    rows.contains(row)
 }

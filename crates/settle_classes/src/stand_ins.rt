@@ -1,5 +1,5 @@
-ghost use Rattle.std.specs.Prelude.{◌≡◌, ◌<◌, slice_get};
-ghost use Rattle.settle_classes.specs.StandIns.{lead_step, stand_score, stand_ins};
+ghost use Rattle.std.specs.Prelude.{◌≡◌, ◌<◌, ◌≤◌, slice_get};
+ghost use Rattle.settle_classes.specs.StandIns.{lead_step, stand_score, stand_scores, stand_ins};
 ghost use Rattle.settle_classes.specs.StandIns.{stand_for as stand_for_outcome};
 ghost use Rattle.settlement_definitions.specs.Measure.{HasScoresInRange};
 
@@ -22,6 +22,15 @@ static SCORES: [(u64, u64); 49] = [
     (1, 7), (2, 7), (2, 6), (3, 6), (3, 5), (4, 5), (4, 4), (5, 4), (5, 3), (6, 3), (6, 2), (7, 2), (7, 1),
 ];
 
+/// The score of number `k`.
+fn score_at(k: usize) -> (u64, u64)
+    requires { k < 49 }
+    ensures numbered { slice_get stand_scores k ≡ Some result }
+    ensures small { (result.0 ≤ 7) × (result.1 ≤ 7) }
+{
+    SCORES[k]
+}
+
 /// The stand-in of number `k`, below 98, in class order.
 pub fn stand_in(k: u8) -> Outcome
     requires { k < STAND_INS }
@@ -29,10 +38,10 @@ pub fn stand_in(k: u8) -> Outcome
     ensures in_range { HasScoresInRange result }
 {
     if k < 49 {
-        let (h, a) = SCORES[usize::from(k)];
+        let (h, a) = score_at(usize::from(k));
         Outcome::Full(h, a)
     } else {
-        let (h, a) = SCORES[usize::from(k - 49)];
+        let (h, a) = score_at(usize::from(k - 49));
         Outcome::Abandoned(h, a)
     }
 }
