@@ -1,17 +1,15 @@
-use Rattle.std.proofs.Common.{ℕ, ℤ, ◌≡◌, Bool, true, false, ◌&&◌, List, [], ◌∷◌, map, get_or, refl, sym, ap, subst, ◌∙◌, arith}
-use Rattle.std.specs.Prelude.{All, Contains, if◌then◌else◌, not}
+use Rattle.std.proofs.Common.{◌≡◌, Bool, true, false, List, get_or, refl, subst, ◌∙◌}
+use Rattle.std.specs.Prelude.{Contains}
 use Rattle.std.specs.List.{list_all, list_any}
 use Rattle.std.specs.Bool.{Decides}
 use Rattle.std.specs.Ordering.{int_eq}
-use Rattle.std.specs.Cmp.Lexicographic.{pointwise}
 use Rattle.std.proofs.lemmas.Bool.Decides.{Decides-and, Decides-by_and, Decides-int_eq, Decides-like}
-use Rattle.std.proofs.lemmas.List.Elements.{All-weaker}
 use Rattle.std.proofs.lemmas.List.Folds.{Any-from_list_any}
 use Rattle.scan_types.specs.declared.offer.Offer.{Offer}
 use Rattle.scan_types.specs.declared.outcome.Outcome.{Outcome}
 use Rattle.settlement_definitions.specs.Gain.{gain}
 use Rattle.settle_classes.specs.StandIns.{is_final, stand_for, stand_ins}
-use Rattle.settle_classes.specs.Classes.{same_bool, settle_alike, distinct_by, classes_of}
+use Rattle.settle_classes.specs.Classes.{same_bool, settle_alike, classes_of}
 use Rattle.settle_classes.specs.Laws.{SettleAlike}
 use Rattle.settle_classes.proofs.Cover.{gain-stand_for, is_final-stand_for}
 use Rattle.settle_classes.proofs.Distinct.{distinct_by-each}

@@ -1,4 +1,4 @@
-use Rattle.std.proofs.Common.{ℕ, ℤ, pos, negsuc, ◌≡◌, ◌+◌, ◌-◌, ◌*◌, ◌/◌, ◌%◌, ◌<◌, ◌≤◌, ◌⊎◌, inl, inr, ◌+ℤ◌, ◌-ℤ◌, ◌≤ℤ◌, ◌<ℤ◌, neg_ℤ, Bool, true, false, suc, refl, sym, ap, subst, ◌∙◌, arith, min}
+use Rattle.std.proofs.Common.{ℕ, ℤ, pos, negsuc, ◌≡◌, ◌+◌, ◌*◌, ◌%◌, ◌≤◌, ◌⊎◌, inl, inr, ◌+ℤ◌, ◌-ℤ◌, ◌≤ℤ◌, neg_ℤ, Bool, true, false, suc, refl, sym, ap, ◌∙◌, arith}
 use Rattle.std.specs.Prelude.{nat_lt, nat_le, ◌==◌, int_lt, unsigned_abs, if◌then◌else◌}
 use Rattle.std.proofs.lemmas.Int.{ints}
 use Rattle.std.proofs.lemmas.Bool.{cases_lt}
@@ -10,12 +10,11 @@ use Rattle.scan_types.specs.declared.rule.VoidRule.TheVariants.{Void, Score, Dec
 use Rattle.scan_types.specs.declared.offer.Offer.{Offer}
 use Rattle.scan_types.specs.declared.outcome.Outcome.{Outcome}
 use Rattle.scan_types.specs.declared.outcome.Outcome.TheVariants.{Full, Abandoned}
-use Rattle.settlement_definitions.specs.declared.leg_result.LegResult.{LegResult}
 use Rattle.settlement_definitions.specs.declared.leg_result.LegResult.TheVariants.{Push}
-use Rattle.settlement_definitions.specs.Legs.{legs_of_line, legs_of, leg_result, lead, excess, by_sign, win_if}
+use Rattle.settlement_definitions.specs.Legs.{legs_of, leg_result, lead, excess, by_sign, win_if}
 use Rattle.settlement_definitions.specs.LegSigns.{by_sign-above, by_sign-below}
 use Rattle.settlement_definitions.specs.Decided.{exceeds_line}
-use Rattle.settlement_definitions.specs.Abandonment.{leg_at, decision, decided_result}
+use Rattle.settlement_definitions.specs.Abandonment.{leg_at}
 use Rattle.settlement_definitions.specs.Gain.{gain, leg_gain}
 use Rattle.settlement_definitions.proofs.DecidedLemmas.{decided_result-by_goals}
 use Rattle.settle_classes.specs.StandIns.{stand_for, stand_score, lead_step, high_home, high_away, is_final}
@@ -75,8 +74,8 @@ high_total step few = omega arith
 high_same_lead : (h a : ℕ) → SameLead h a (high_home (lead_step h a)) (high_away (lead_step h a))
 high_same_lead h a =
     elim (cases_lt (h + 5) a) [
-      inl behind ↦ inr (inl (omega arith, omega arith))
-    | inr near ↦ elim (cases_lt (a + 5) h) [ inl ahead ↦ inr (inr (omega arith, omega arith)) | inr level ↦ inl (omega arith) ]
+      | inl behind ↦ inr (inl (omega arith, omega arith))
+      | inr near ↦ elim (cases_lt (a + 5) h) [ inl ahead ↦ inr (inr (omega arith, omega arith)) | inr level ↦ inl (omega arith) ]
     ]
 
 -- from eight goals on a leg goes by the lead alone

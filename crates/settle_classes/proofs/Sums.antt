@@ -1,10 +1,10 @@
-use Rattle.std.proofs.Common.{ℕ, ℤ, pos, ◌≡◌, ◌+ℤ◌, ◌-ℤ◌, ◌*ℤ◌, ◌≤ℤ◌, ◌*◌, ◌/◌, List, [], ◌∷◌, refl, sym, ap, subst, ◌∙◌}
+use Rattle.std.proofs.Common.{ℕ, ℤ, pos, ◌≡◌, ◌+ℤ◌, ◌-ℤ◌, ◌*ℤ◌, ◌≤ℤ◌, ◌*◌, ◌/◌, List, [], ◌∷◌, refl, ap, subst, ◌∙◌}
 use Rattle.std.specs.Prelude.{All, unsigned_abs}
 use Rattle.std.proofs.lemmas.List.Elements.{All-contains}
 use Rattle.scan_types.specs.declared.offer.Offer.{Offer}
 use Rattle.scan_types.specs.declared.outcome.Outcome.{Outcome}
 use Rattle.scan_types.specs.declared.outcome.Outcome.TheVariants.{Full, Abandoned}
-use Rattle.settlement_definitions.specs.Gain.{gain, paid, net}
+use Rattle.settlement_definitions.specs.Gain.{gain, net}
 use Rattle.settlement_definitions.specs.Arbitrage.{need, sum_over, total_net, total_gain}
 use Rattle.settle_classes.specs.StandIns.{stand_for, stand_ins}
 use Rattle.settle_classes.proofs.Cover.{gain-stand_for}

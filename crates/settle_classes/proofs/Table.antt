@@ -1,5 +1,5 @@
-use Rattle.std.proofs.Common.{ℕ, ◌≡◌, ◌+◌, ◌-◌, ◌<◌, ◌≤◌, Bool, true, false, zero, suc, List, [], ◌∷◌, ◌++◌, map, length, get_or, refl, sym, ap, subst, ◌∙◌, arith, length-append, ◌&&◌, ◌||◌}
-use Rattle.std.specs.Prelude.{nat_le, ◌==◌, slice_get, Some, None, Contains, if◌then◌else◌}
+use Rattle.std.proofs.Common.{ℕ, ◌≡◌, ◌+◌, ◌-◌, ◌<◌, ◌≤◌, Bool, true, false, zero, suc, List, [], ◌∷◌, ◌++◌, map, length, get_or, refl, sym, ap, subst, ◌∙◌, arith, ◌&&◌, ◌||◌}
+use Rattle.std.specs.Prelude.{nat_le, ◌==◌, slice_get, Some, Contains, if◌then◌else◌}
 use Rattle.std.specs.List.{list_all, list_any}
 use Rattle.std.proofs.Common.{take}
 use Rattle.std.proofs.lemmas.List.{length-map, take_all}
@@ -89,8 +89,8 @@ all_below_at : (p : ℕ → Bool) (n k : ℕ) → all_below p n ≡ true → k <
 all_below_at p zero k h lt = absurd (omega arith)
 all_below_at p (suc n) k h lt =
     elim (cases_lt k n) [
-      inl below ↦ all_below_at p n k (and_right (p n) (all_below p n) h) below
-    | inr above ↦ let same : n ≡ k = omega arith in subst (λ j. p j ≡ true) same (and_left (p n) (all_below p n) h)
+      | inl below ↦ all_below_at p n k (and_right (p n) (all_below p n) h) below
+      | inr above ↦ let same : n ≡ k = omega arith in subst (λ j. p j ≡ true) same (and_left (p n) (all_below p n) h)
     ]
 
 abbrev has_low : ℕ → ℕ → Bool

@@ -27,16 +27,15 @@ fn is_final(outcome: Outcome) -> bool
 }
 
 /// How the outcome settles the offers. Computes each gain once.
-pub fn settlement(
-    alloc: Global,
-    offers: &[Offer],
-    outcome: Outcome,
-) -> Result<Row, WantOfMemory>
+pub fn settlement(alloc: Global, offers: &[Offer], outcome: Outcome) -> Result<Row, WantOfMemory>
     requires { HasScoresInRange outcome }
     ensures kind { IfOk result (λ row. row.is_final ≡ is_final outcome) }
     ensures gains { IfOk result (λ row. row.gains.items ≡ map (λ offer. gain offer outcome) offers.now) }
 {
-    let gains = offers.iter().map(|offer| gain(offer, outcome)).collect(alloc)?;
+    let gains = offers
+        .iter()
+        .map(|offer| gain(offer, outcome))
+        .collect(alloc)?;
     Ok(Row {
         is_final: is_final(outcome),
         gains,
