@@ -1,6 +1,8 @@
 ghost use Rattle.std.specs.Prelude.{◌≡◌, ◌<◌, ◌≤◌, slice_get};
-ghost use Rattle.settle_classes.specs.StandIns.{lead_step, stand_score, stand_scores, stand_ins};
+ghost use Rattle.settle_classes.specs.StandIns.{is_final, lead_step, stand_score, stand_scores, stand_ins};
 ghost use Rattle.settle_classes.specs.StandIns.{stand_for as stand_for_outcome};
+ghost use Rattle.scan_types.specs.declared.offer.Offer.{Offer};
+ghost use Rattle.settlement_definitions.specs.Gain.{gain};
 ghost use Rattle.settlement_definitions.specs.Measure.{HasScoresInRange};
 
 use scan_types::Outcome;
@@ -114,6 +116,8 @@ fn lead_step(h: u64, a: u64) -> u64
 /// score.
 pub fn stand_for(outcome: Outcome) -> Outcome
     ensures exact { result ≡ stand_for_outcome outcome }
+    ensures kind { is_final result ≡ is_final outcome }
+    ensures gains { (offer : Offer) → gain offer result ≡ gain offer outcome }
 {
     match outcome {
         Outcome::Full(h, a) => {
