@@ -7,13 +7,22 @@
 // a fault that nothing outside gave.
 #![tactic(auto)]
 
+mod failing_calls;
 mod faults;
+mod mem_file;
+mod mem_opener;
+mod mem_sink;
+mod mem_source;
 mod opener;
 mod put;
 mod sink;
 mod source;
 
 pub use faults::{OpenFault, ReadFailed, WantOfMemory, WriteFailed};
+pub use mem_file::MemFile;
+pub use mem_opener::MemOpener;
+pub use mem_sink::MemSink;
+pub use mem_source::MemSource;
 pub use opener::Opener;
 pub use put::put_all;
 pub use sink::Sink;

@@ -26,8 +26,7 @@ pub trait Opener {
         ensures nothing_opened { OnErr result (SameUnderAll (told self.old) (told self.new)) }
         ensures failed { IsErrOf result OpenFault.Failed → Rose (faults self.old) (faults self.new) }
         ensures faults_kept { faults self.old ≤ faults self.new }
+        ensures faults_fit { faults self.new < 2 ^ 64 }
         ensures promised { promises self.old → IfOk result (λ source. Self.S.never_fails source) }
         ensures promise_kept { promises self.old → promises self.new };
-
-    ghost faults_fit: { (opener : Self) → faults opener < 2 ^ 64 };
 }

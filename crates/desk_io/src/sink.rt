@@ -21,7 +21,6 @@ pub trait Sink {
         ensures appended { IfOk result (λ n. Appends (written self.old) (written self.new) (take n buf.now)) }
         ensures nothing_appended { OnErr result (Keeps (written self.old) (written self.new)) }
         ensures failed { OnErr result (Rose (faults self.old) (faults self.new)) }
-        ensures faults_kept { faults self.old ≤ faults self.new };
-
-    ghost faults_fit: { (sink : Self) → faults sink < 2 ^ 64 };
+        ensures faults_kept { faults self.old ≤ faults self.new }
+        ensures faults_fit { faults self.new < 2 ^ 64 };
 }

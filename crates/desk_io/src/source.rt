@@ -30,11 +30,10 @@ pub trait Source {
         ensures nothing_taken { OnErr result (Keeps (left self.old) (left self.new)) }
         ensures failed { OnErr result (Rose (faults self.old) (faults self.new)) }
         ensures faults_kept { faults self.old ≤ faults self.new }
+        ensures faults_fit { faults self.new < 2 ^ 64 }
         ensures is_later { later self.old self.new }
         ensures promised { never_fails self.old → IsOk result }
         ensures promise_kept { never_fails self.old → never_fails self.new };
-
-    ghost faults_fit: { (source : Self) → faults source < 2 ^ 64 };
 
     ghost later_reflexive: { (source : Self) → later source source };
 
