@@ -18,7 +18,7 @@ mod put;
 mod sink;
 mod source;
 
-pub use faults::{OpenFault, ReadFailed, WantOfMemory, WriteFailed};
+pub use faults::{OpenFault, ReadFailed, WriteFailed};
 pub use mem_file::MemFile;
 pub use mem_opener::MemOpener;
 pub use mem_sink::MemSink;
