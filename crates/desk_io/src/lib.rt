@@ -29,3 +29,6 @@ pub use opener::Opener;
 pub use put::put_all;
 pub use sink::Sink;
 pub use source::Source;
+
+#[cfg(test)]
+mod tests;
