@@ -33,7 +33,7 @@ module _ (name : List ℕ) (files : List FileState) (k : ℕ) (file : FileState)
   under_other : (other : List ℕ) → other ≢ name → files_under other (remove files k) ≡ files_under other files
   under_other other differs =
       filter-remove_other (λ f. bytes_eq f.name other) files k file within is
-        (false_from_ne_true (bytes_eq file.name other) (λ same. differs (sym ((bytes_eq-Decides file.name other).0 same) ∙ named)))
+      (false_from_ne_true (bytes_eq file.name other) (λ same. differs (sym ((bytes_eq-Decides file.name other).0 same) ∙ named)))
 
   others_never_fail : AllNeverFail files → AllNeverFail (remove files k)
   others_never_fail all j d below = elim (cases_lt j k) [
@@ -53,4 +53,4 @@ module _ (name : List ℕ) (files : List FileState) (k : ℕ) (file : FileState)
   pub takes_first : (after : List FileState) (source : SourceState) → after ≡ remove files k → source ≡ unread file → TakesFirst name files after source
   takes_first after source left opened =
       subst (λ l. TakesFirst name files l source) (sym left)
-        (subst (λ s. TakesFirst name files (remove files k) s) (sym opened) takes_first_file)
+      (subst (λ s. TakesFirst name files (remove files k) s) (sym opened) takes_first_file)

@@ -45,8 +45,8 @@ module _ {X : Type 0} (p : X → Bool) where
       let passes : p x ≡ true = ap p is ∙ here.1 in
       let shorter : length (take k xs) ≡ k = length-take-le k xs (omega (arith, here.0)) in
       let front : filter p (take k xs) ≡ [] = none_passes (take k xs) (λ j d within.
-        let before : j < k = omega (arith, within, shorter) in
-        ap p (get_or-take k xs j d before) ∙ (position-Some p xs k d found).2 j before) in
+      let before : j < k = omega (arith, within, shorter) in
+      ap p (get_or-take k xs j d before) ∙ (position-Some p xs k d found).2 j before) in
       filter_split xs k x here.0 is
       ∙ ap (λ b. filter p (take k xs) ++ cond b (x ∷ filter p (drop (suc k) xs)) (filter p (drop (suc k) xs))) passes
       ∙ ap (λ l. l ++ x ∷ filter p (drop (suc k) xs)) front

@@ -3,10 +3,8 @@ ghost use Rattle.std.specs.Prelude.{◌<◌, ◌≤◌, length, IfSome};
 
 use super::*;
 use std::alloc::{AllocError, Global};
-use std::env;
-use std::fs;
-use std::process;
 use std::test::Fail;
+use std::{env, fs, process};
 
 fn read_through<S: Source>(source: &mut S, buf: &mut [u8]) -> Option<usize>
     requires { 0 < length buf.old }
@@ -60,7 +58,11 @@ fn a_sink_takes_pieces_up_to_its_room(rt: HostRuntime) -> Result<(), Fail> {
 #[test]
 fn files_of_one_name_are_opened_in_order(rt: HostRuntime) -> Result<(), Fail> {
     let alloc = rt.alloc();
-    let files = vec![in alloc; file(alloc, "a", b"one")?, file(alloc, "b", b"two")?, file(alloc, "a", b"six")?]?;
+    let files = vec![in alloc;
+        file(alloc, "a", b"one")?,
+        file(alloc, "b", b"two")?,
+        file(alloc, "a", b"six")?,
+    ]?;
     let mut opener = MemOpener::new(files, vec![in alloc; 3]?);
     let mut buf = [0u8; 4];
     for (name, want) in [
@@ -113,7 +115,12 @@ fn a_real_file_is_opened_and_read(rt: HostRuntime) -> Result<(), Fail> {
     assert_eq!(rt; buf[..5], b"alpha"[..]);
     assert_eq!(rt; read_through(&mut source, &mut buf), Some(0));
     fs::remove_file(&rt, path.as_str())?;
-    assert!(rt; matches!(open_through(&mut opener, path.as_str()), Err(OpenFault::Failed)));
+    assert!(rt;
+        matches!(
+            open_through(&mut opener, path.as_str()),
+            Err(OpenFault::Failed)
+        )
+    );
     // A folder may be opened as a file, but not read.
     if let Ok(mut source) = open_through(&mut opener, "/") {
         assert_eq!(rt; read_through(&mut source, &mut buf), None);

@@ -17,8 +17,8 @@ loop-rest-preserved g c =
       within = after_within bytes rest count before.rest wrote.bound before.within;
       rest = after_is_rest bytes rest count before.rest wrote.bound before.within;
       appended = subst (Appends (K.written c.args.sink.now) (K.written c.write.new.self))
-        (done_grows bytes rest count before.rest wrote.bound before.within)
-        (Appends-trans _ _ _ _ _ before.appended wrote.appended);
+          (done_grows bytes rest count before.rest wrote.bound before.within)
+          (Appends-trans _ _ _ _ _ before.appended wrote.appended);
       faults = omega (arith, before.faults, wrote.faults_kept);
       untouched = λ whole. absurd (after_shorter bytes rest count before.rest wrote.bound before.within wrote.some whole);
     }
