@@ -15,15 +15,17 @@ pub record ReadsOnTo (before after : SourceState) : Type 0 where
   pub given : List ℕ
   pub left : before.left ≡ given ++ after.left
   pub faults : before.faults ≤ after.faults
+  pub piece : after.piece ≡ before.piece
   pub failing : after.failing ≡ before.failing
 
 pub reads_on_to_itself : (state : SourceState) → ReadsOnTo state state
-reads_on_to_itself state = record { given = []; left = refl; faults = omega arith; failing = refl }
+reads_on_to_itself state = record { given = []; left = refl; faults = omega arith; piece = refl; failing = refl }
 
 pub reads_on_further : (first second third : SourceState) → ReadsOnTo first second → ReadsOnTo second third → ReadsOnTo first third
 reads_on_further first second third to_second to_third = record {
   given = to_second.given ++ to_third.given;
   left = to_second.left ∙ ap (λ bytes. to_second.given ++ bytes) to_third.left ∙ sym (append_assoc to_second.given to_third.given third.left);
   faults = omega (arith, to_second.faults, to_third.faults);
+  piece = to_third.piece ∙ to_second.piece;
   failing = to_third.failing ∙ to_second.failing;
 }
