@@ -1,20 +1,18 @@
 -- Files of one name, and what is left of them when the first is opened.
-use Rattle.std.proofs.Common.{◌≡◌, ◌≢◌, ◌<◌, ◌+◌, ◌⊎◌, ℕ, Some, List, [], ◌∷◌, length, get_or, refl, sym, ◌∙◌, ap, subst, map, inl, inr, arith}
+use Rattle.std.proofs.Common.{◌≡◌, ◌≢◌, ◌<◌, ◌+◌, ℕ, Some, List, [], ◌∷◌, length, get_or, refl, sym, ◌∙◌, ap, subst, inl, inr, arith}
 use Rattle.std.specs.Str.{bytes_eq}
 use Rattle.std.specs.List.{position, remove}
 use Rattle.std.proofs.lemmas.Slice.Eq.{bytes_eq-Decides}
 use Rattle.std.proofs.lemmas.Bool.{false_from_ne_true, cases_lt}
 use Rattle.std.proofs.lemmas.List.Quantifiers.{position-Some}
 use Rattle.std.proofs.lemmas.List.Edits.{get_or-remove_below, get_or-remove_above, length-remove}
-use Rattle.desk_io.specs.Opener.{OpensFirst}
 use Rattle.desk_io.specs.MemSource.{SourceState}
-use Rattle.desk_io.specs.MemOpener.{FileState, files_under, bytes_under, unread, AllNeverFail, OpensFirstFile}
+use Rattle.desk_io.specs.MemOpener.{FileState, files_under, unread, AllNeverFail, OpensFirstFile}
 use Rattle.desk_io.proofs.FirstPassing.{filter_first, filter-remove_other}
 
 -- all that an opening which succeeds does to the files
 pub record TakesFirst (name : List ℕ) (before after : List FileState) (source : SourceState) : Type 0 where
   pub first : OpensFirstFile name before after source
-  pub told : OpensFirst (Some (bytes_under name before)) (Some (bytes_under name after)) (Some source.left)
   pub others : (other : List ℕ) → other ≢ name → files_under other after ≡ files_under other before
   pub promised : AllNeverFail before → source.failing ≡ []
   pub promise_kept : AllNeverFail before → AllNeverFail after
@@ -44,7 +42,6 @@ module _ (name : List ℕ) (files : List FileState) (k : ℕ) (file : FileState)
   takes_first_file : TakesFirst name files (remove files k) (unread file)
   takes_first_file = record {
     first = record { file = file; first = under_name; unread_yet = refl };
-    told = subst (λ fs. OpensFirst (Some (map (λ f. f.bytes) fs)) (Some (bytes_under name (remove files k))) (Some file.bytes)) (sym under_name) (refl, refl);
     others = under_other;
     promised = λ all. ap (λ f. f.failing) is ∙ all k file within;
     promise_kept = others_never_fail;

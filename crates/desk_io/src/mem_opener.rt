@@ -1,8 +1,7 @@
 // Files in memory and their opener.
-ghost use Rattle.std.specs.Prelude.{◌≡◌, ◌≢◌, ◌↔◌, ◌⊎◌, ◌<◌, ◌≤◌, ◌^◌, [], Some, None, List, ℕ, position, if◌then◌else◌, is_err, string_bytes, Contains, IfOk, IsErr, IsErrOf, OnOk, OnErr};
+ghost use Rattle.std.specs.Prelude.{◌≡◌, ◌≢◌, ◌↔◌, ◌⊎◌, ◌<◌, ◌≤◌, ◌^◌, [], Some, List, ℕ, position, if◌then◌else◌, is_err, Contains, IfOk, IsErr, IsErrOf, OnOk, OnErr};
 ghost use Rattle.std.specs.Str.{bytes_eq};
-ghost use Rattle.desk_io.specs.Faults.{raised, Rose};
-ghost use Rattle.desk_io.specs.Opener.{OpensFirst, SameUnderOthers, SameUnderAll};
+ghost use Rattle.desk_io.specs.Faults.{raised};
 ghost use Rattle.desk_io.specs.MemOpener.{files_under, bytes_under, AllNeverFail, OpensFirstFile};
 
 use crate::failing_calls::FailingCalls;
@@ -54,25 +53,22 @@ impl Opener for MemOpener {
     ghost promises = { λ o. AllNeverFail o.files };
 
     fn open_feed(&mut self, name: &str) -> Result<MemSource, OpenFault>
-        ensures fresh { IfOk result (λ source. source.faults ≡ 0) }
-        ensures opened { IfOk result (λ source. OpensFirst (Some (bytes_under name.now self.old.files)) (Some (bytes_under name.now self.new.files)) (Some source.left)) }
-        ensures others { OnOk result (SameUnderOthers name.now (λ other. Some (bytes_under other self.old.files)) (λ other. Some (bytes_under other self.new.files))) }
-        ensures nothing_opened { OnErr result (SameUnderAll (λ other. Some (bytes_under other self.old.files)) (λ other. Some (bytes_under other self.new.files))) }
-        ensures failed { IsErrOf result OpenFault.Failed → Rose self.old.faults self.new.faults }
-        ensures faults_kept { self.old.faults ≤ self.new.faults }
-        ensures faults_fit { self.new.faults < 2 ^ 64 }
-        ensures promised { AllNeverFail self.old.files → IfOk result (λ source. source.failing ≡ []) }
-        ensures promise_kept { AllNeverFail self.old.files → AllNeverFail self.new.files }
-
-        // Exactly the openings with these numbers fail, and those of a name that has no file left. It never wants memory.
+        // Exactly the openings with these numbers fail, and those of a name that has no file left. None wants memory.
         ensures counted { self.new.openings ≡ raised self.old.openings }
         ensures fails { IsErr result ↔ (Contains self.old.failing self.new.openings ⊎ (files_under name.now self.old.files ≡ [])) }
         ensures only_failed { OnErr result (IsErrOf result OpenFault.Failed) }
+        ensures faults { self.new.faults ≡ (if is_err result then raised self.old.faults else self.old.faults) }
+        ensures faults_kept { self.old.faults ≤ self.new.faults }
+        ensures faults_fit { self.new.faults < 2 ^ 64 }
+        ensures same_files { OnErr result (self.new.files ≡ self.old.files) }
+
+        // Each of the others opens the first file of the name.
         ensures first_file { IfOk result (OpensFirstFile name.now self.old.files self.new.files) }
         ensures other_files { OnOk result ((other : List ℕ) → other ≢ name.now → files_under other self.new.files ≡ files_under other self.old.files) }
-        ensures same_files { OnErr result (self.new.files ≡ self.old.files) }
+
+        ensures promised { AllNeverFail self.old.files → IfOk result (λ source. source.failing ≡ []) }
+        ensures promise_kept { AllNeverFail self.old.files → AllNeverFail self.new.files }
         ensures same_failing { self.new.failing ≡ self.old.failing }
-        ensures one_fault { self.new.faults ≡ (if is_err result then raised self.old.faults else self.old.faults) }
     {
         let fails = self.calls.next_fails();
         match self.first_under(name) {

@@ -1,7 +1,6 @@
 // A sink in memory.
 ghost use Rattle.std.specs.Prelude.{◌≡◌, ◌↔◌, ◌⊎◌, ◌<◌, ◌≤◌, ◌^◌, ◌+◌, ◌++◌, [], Some, length, take, min, if◌then◌else◌, is_err, Contains, IfOk, IsErr, OnErr};
-ghost use Rattle.std.specs.Io.KnownBytes.{Appends};
-ghost use Rattle.desk_io.specs.Faults.{raised, Rose};
+ghost use Rattle.desk_io.specs.Faults.{raised};
 
 use crate::failing_calls::FailingCalls;
 use crate::{Sink, WriteFailed};
@@ -64,23 +63,24 @@ impl Sink for MemSink {
 
     fn write(&mut self, buf: &[u8]) -> Result<usize, WriteFailed>
         requires { 0 < length buf.now }
-        ensures some { IfOk result (λ n. 0 < n) }
-        ensures bound { IfOk result (λ n. n ≤ length buf.now) }
-        ensures appended { IfOk result (λ n. self.new.written ≡ self.old.written ++ take n buf.now) }
-        ensures nothing_appended { OnErr result (self.new.written ≡ self.old.written) }
-        ensures failed { OnErr result (Rose self.old.faults self.new.faults) }
-        ensures faults_kept { self.old.faults ≤ self.new.faults }
-        ensures faults_fit { self.new.faults < 2 ^ 64 }
 
-        // Exactly the writes with these numbers fail, and those with no room, and each of the others takes as many bytes as it can.
+        // Exactly the writes with these numbers fail, and those with no room.
         ensures counted { self.new.writes ≡ raised self.old.writes }
         ensures fails { IsErr result ↔ (Contains self.old.failing self.new.writes ⊎ (self.old.room ≡ 0)) }
-        ensures piece { IfOk result (λ n. n ≡ min (min self.old.piece (length buf.now)) self.old.room) }
-        ensures room { IfOk result (λ n. self.old.room ≡ self.new.room + n) }
+        ensures faults { self.new.faults ≡ (if is_err result then raised self.old.faults else self.old.faults) }
+        ensures faults_kept { self.old.faults ≤ self.new.faults }
+        ensures faults_fit { self.new.faults < 2 ^ 64 }
+        ensures nothing_appended { OnErr result (self.new.written ≡ self.old.written) }
         ensures same_room { OnErr result (self.new.room ≡ self.old.room) }
+
+        // Each of the others takes as many bytes as it can.
+        ensures count { IfOk result (λ n. n ≡ min (min self.old.piece (length buf.now)) self.old.room) }
+        ensures some { IfOk result (λ n. 0 < n) }
+        ensures appended { IfOk result (λ n. self.new.written ≡ self.old.written ++ take n buf.now) }
+        ensures room { IfOk result (λ n. self.old.room ≡ self.new.room + n) }
+
         ensures same_piece { self.new.piece ≡ self.old.piece }
         ensures same_failing { self.new.failing ≡ self.old.failing }
-        ensures one_fault { self.new.faults ≡ (if is_err result then raised self.old.faults else self.old.faults) }
     {
         let fails = self.calls.next_fails();
         if fails || self.room == 0 {

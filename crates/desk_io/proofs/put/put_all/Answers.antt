@@ -1,4 +1,4 @@
-use Rattle.std.proofs.Common.{arith, subst, ◌≤◌, length}
+use Rattle.std.proofs.Common.{arith, subst}
 use Rattle.std.proofs.KnownBytes.{Appends-trans}
 use Rattle.std.specs.Io.KnownBytes.{Appends}
 use Rattle.desk_io.proofs.Rests.{after_within, after_is_rest, done_grows, after_shorter}

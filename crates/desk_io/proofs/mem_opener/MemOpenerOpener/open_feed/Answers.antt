@@ -1,6 +1,6 @@
-use Rattle.std.proofs.Common.{◌≡◌, ◌≢◌, ◌∙◌, List, ℕ, [], ◌∷◌, Some, inl, inr, refl, sym, ap, subst, map}
+use Rattle.std.proofs.Common.{◌≡◌, ◌∙◌, [], inl, inr, refl, sym, subst}
 use Rattle.std.specs.Str.{bytes_eq}
-use Rattle.std.specs.List.{position, Contains}
+use Rattle.std.specs.List.{Contains}
 use Rattle.desk_io.specs.MemOpener.{files_under}
 use Rattle.desk_io.proofs.FirstPassing.{filter_nil}
 use Rattle.desk_io.proofs.Files.{TakesFirst, takes_first}
@@ -13,12 +13,6 @@ taken c =
     subst (λ s. TakesFirst c.args.name.now s.files c.remove.new.self.items c.into_source.result) c.self.view_is
     (takes_first c.args.name.now c.self.inside.files.items c.in-Some.place c.remove.result (sym c.in-Some.ensures) c.remove.ensures.value
     c.remove.new.self.items c.into_source.result c.remove.ensures.items c.into_source.ensures)
-
-pub returns-in-Some-clause-opened : goal.returns-in-Some-clause-opened
-returns-in-Some-clause-opened c = (taken c).told
-
-pub returns-in-Some-clause-others : goal.returns-in-Some-clause-others
-returns-in-Some-clause-others c other differs = ap (λ files. Some (map (λ f. f.bytes) files)) ((taken c).others other differs)
 
 pub returns-in-Some-clause-promised : goal.returns-in-Some-clause-promised
 returns-in-Some-clause-promised c = (taken c).promised
