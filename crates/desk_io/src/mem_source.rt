@@ -8,7 +8,7 @@ use crate::failing_calls::FailingCalls;
 use crate::{ReadFailed, Source};
 use std::marker::Model;
 
-/// Gives its bytes in pieces. Reads fail by their number.
+/// Gives its bytes in pieces. Reads fail by their number. A read takes no memory.
 #[derive(Drop)]
 pub struct MemSource {
     bytes: Vec<u8>,
@@ -23,16 +23,29 @@ impl Model for MemSource {
 
     ghost Value = { SourceState };
 
-    ghost view = { λ s. record { left = drop s.at s.bytes.items; piece = s.piece; failing = s.calls.failing.items; reads = s.calls.made; faults = s.calls.faults } };
+    ghost view = { λ s. record {
+      left = drop s.at s.bytes.items;
+      piece = s.piece;
+      failing = s.calls.failing.items;
+      reads = s.calls.made;
+      faults = s.calls.faults;
+    } };
 
     ghost invariant = { λ s. (s.at ≤ length s.bytes.items) × (1 ≤ s.piece) };
 }
 
 impl MemSource {
-    /// A source of these bytes, at most `piece` of them a read. `failing` has the numbers, from 1 on, of the reads that fail.
+    /// A source of these bytes, at most `piece` of them a read. `failing` has the numbers, from 1 on,
+    /// of the reads that fail.
     pub fn new(bytes: Vec<u8>, piece: usize, failing: Vec<u32>) -> MemSource
         requires { 1 ≤ piece }
-        ensures { result ≡ record { left = bytes.items; piece = piece; failing = failing.items; reads = 0; faults = 0 } }
+        ensures { result ≡ record {
+          left = bytes.items;
+          piece = piece;
+          failing = failing.items;
+          reads = 0;
+          faults = 0;
+        } }
     {
         MemSource {
             bytes,
@@ -68,12 +81,14 @@ impl Source for MemSource {
         // Exactly the reads with these numbers fail.
         ensures counted { self.new.reads ≡ raised self.old.reads }
         ensures fails { IsErr result ↔ Contains self.old.failing self.new.reads }
-        ensures faults { self.new.faults ≡ (if is_err result then raised self.old.faults else self.old.faults) }
+        ensures faults { self.new.faults ≡
+            (if is_err result then raised self.old.faults else self.old.faults) }
         ensures faults_fit { self.new.faults < 2 ^ 64 }
         ensures nothing_taken { OnErr result (self.new.left ≡ self.old.left) }
 
         // Each of the others gives as many bytes as it can.
-        ensures count { IfOk result (λ n. n ≡ min (min self.old.piece (length buf.old)) (length self.old.left)) }
+        ensures count { IfOk result (λ n.
+            n ≡ min (min self.old.piece (length buf.old)) (length self.old.left)) }
         ensures given { IfOk result (λ n. self.old.left ≡ take n buf.new ++ self.new.left) }
         ensures end { IfOk result (λ n. n ≡ 0 → self.new.left ≡ []) }
 

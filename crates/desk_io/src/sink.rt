@@ -18,7 +18,8 @@ pub trait Sink {
         requires { 0 < length buf.now }
         ensures some { IfOk result (λ n. 0 < n) }
         ensures bound { IfOk result (λ n. n ≤ length buf.now) }
-        ensures appended { IfOk result (λ n. Appends (written self.old) (written self.new) (take n buf.now)) }
+        ensures appended { IfOk result (λ n.
+            Appends (written self.old) (written self.new) (take n buf.now)) }
         ensures nothing_appended { OnErr result (Keeps (written self.old) (written self.new)) }
         ensures failed { OnErr result (Rose (faults self.old) (faults self.new)) }
         ensures faults_kept { faults self.old ≤ faults self.new }
