@@ -1,5 +1,5 @@
 // Reads, writes and openings by their numbers, and the real outside. Expected values are counted by hand.
-ghost use Rattle.std.specs.Prelude.{◌<◌, ◌≤◌, length, IfSome};
+ghost use Rattle.std.specs.Prelude.{◌≡◌, ◌<◌, ◌≤◌, length, IfSome};
 
 use super::*;
 use std::alloc::{AllocError, Global};
@@ -22,11 +22,18 @@ fn file(alloc: Global, name: &str, bytes: &[u8]) -> Result<MemFile, AllocError> 
     Ok(MemFile::of(name, bytes.to_vec(alloc)?, 4, Vec::new(alloc)))
 }
 
+// What goes to another thread: a feed is read by a worker of its own.
+fn sendable<T: Send>(value: T) -> T
+    ensures { result ≡ value }
+{
+    value
+}
+
 #[test]
 fn a_source_gives_its_bytes_in_pieces(rt: HostRuntime) -> Result<(), Fail> {
     let alloc = rt.alloc();
     let bytes = b"abcdefg".to_vec(alloc)?;
-    let mut source = MemSource::new(bytes, 3, vec![in alloc; 2]?);
+    let mut source = sendable(MemSource::new(bytes, 3, vec![in alloc; 2]?));
     let mut buf = [0u8; 4];
     for want in [Some("abc"), None, Some("def"), Some("g"), Some("")] {
         match read_through(&mut source, &mut buf) {
@@ -110,7 +117,7 @@ fn a_real_file_is_opened_and_read(rt: HostRuntime) -> Result<(), Fail> {
     fs::write(&rt, path.as_str(), "alpha")?;
     let mut opener = FileOpener::new(&rt);
     let mut buf = [0u8; 8];
-    let mut source = open_through(&mut opener, path.as_str())?;
+    let mut source = sendable(open_through(&mut opener, path.as_str())?);
     assert_eq!(rt; read_through(&mut source, &mut buf), Some(5));
     assert_eq!(rt; buf[..5], b"alpha"[..]);
     assert_eq!(rt; read_through(&mut source, &mut buf), Some(0));
