@@ -26,6 +26,7 @@ pub trait Opener {
             OpensFirst (told self.old name.now) (told self.new name.now) (Self.S.left source)) }
         ensures others { OnOk result (SameUnderOthers name.now (told self.old) (told self.new)) }
         ensures nothing_opened { OnErr result (SameUnderAll (told self.old) (told self.new)) }
+        ensures unchanged { IsErrOf result OpenFault.WantOfMemory → self.new ≡ self.old }
         ensures failed { IsErrOf result OpenFault.Failed → Rose (faults self.old) (faults self.new) }
         ensures faults_kept { faults self.old ≤ faults self.new }
         ensures faults_fit { faults self.new < 2 ^ 64 }
