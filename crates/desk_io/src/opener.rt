@@ -7,6 +7,7 @@ use crate::{OpenFault, Source};
 
 /// Opens sources by name.
 pub trait Opener {
+    /// What it opens.
     type S: Source + Drop;
 
     /// How many openings have failed. The count never falls, and stands still at `u64::MAX`.
@@ -19,7 +20,8 @@ pub trait Opener {
     /// The promise that no read fails of a source that is opened from here on.
     ghost promises: { Self → Type 0 };
 
-    /// Opens the next source under this name.
+    /// Opens the next source under this name. It answers `Failed` where the outside refuses that, or has
+    /// no source of this name left, and `WantOfMemory` where the memory for it is not to be had.
     fn open_feed(&mut self, name: &str) -> Result<Self::S, OpenFault>
         ensures fresh { IfOk result (λ source. Self.S.faults source ≡ 0) }
         ensures opened { IfOk result (λ source.

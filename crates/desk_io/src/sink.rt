@@ -13,7 +13,8 @@ pub trait Sink {
     /// The bytes that were written, from the first on. `None` claims nothing.
     ghost written: { Self → Option (List ℕ) };
 
-    /// Appends some of the bytes, from the first on, and answers how many: at least one.
+    /// Appends some of the bytes, from the first on, and answers how many: at least one. A write that could
+    /// take none fails.
     fn write(&mut self, buf: &[u8]) -> Result<usize, WriteFailed>
         requires { 0 < length buf.now }
         ensures some { IfOk result (λ n. 0 < n) }

@@ -108,30 +108,30 @@ fn all_is_put_or_a_prefix(rt: HostRuntime) -> Result<(), Fail> {
 }
 
 #[test]
-fn a_real_file_is_opened_and_read(rt: HostRuntime) -> Result<(), Fail> {
+fn a_file_that_is_not_there_or_a_folder_fails(rt: HostRuntime) {
+    let mut opener = FileOpener::new(&rt);
+    let missing = open_through(&mut opener, "/no such folder/alpha.feed");
+    assert!(rt; matches!(missing, Err(OpenFault::Failed)));
+    // A folder may be opened as a file, but not read.
+    if let Ok(mut source) = open_through(&mut opener, "/") {
+        assert_eq!(rt; read_through(&mut source, &mut [0u8; 8]), None);
+    }
+}
+
+#[test]
+fn a_file_is_read_to_its_end(rt: HostRuntime) -> Result<(), Fail> {
     let alloc = rt.alloc();
     let folder = env::temp_dir(&rt)?;
     let folder = folder.as_path();
     let number = process::id(rt.process());
     let path = format!(in alloc; "{}/desk_io_{number}", folder.as_str())?;
     fs::write(&rt, path.as_str(), "alpha")?;
-    let mut opener = FileOpener::new(&rt);
+    let mut source = sendable(open_through(&mut FileOpener::new(&rt), path.as_str())?);
     let mut buf = [0u8; 8];
-    let mut source = sendable(open_through(&mut opener, path.as_str())?);
     assert_eq!(rt; read_through(&mut source, &mut buf), Some(5));
-    assert_eq!(rt; buf[..5], b"alpha"[..]);
+    assert_eq!(rt; &buf[..5], b"alpha".as_slice());
     assert_eq!(rt; read_through(&mut source, &mut buf), Some(0));
     fs::remove_file(&rt, path.as_str())?;
-    assert!(rt;
-        matches!(
-            open_through(&mut opener, path.as_str()),
-            Err(OpenFault::Failed)
-        )
-    );
-    // A folder may be opened as a file, but not read.
-    if let Ok(mut source) = open_through(&mut opener, "/") {
-        assert_eq!(rt; read_through(&mut source, &mut buf), None);
-    }
     Ok(())
 }
 
