@@ -8,6 +8,7 @@ pub(crate) struct FailingCalls {
     pub(crate) failing: Vec<u32>,
     pub(crate) made: u64,
     pub(crate) faults: u64,
+    ghost faults_fit: { faults < 2 ^ 64 },
 }
 
 impl FailingCalls {
@@ -33,7 +34,6 @@ impl FailingCalls {
         ensures faults_fit { self.new.faults < 2 ^ 64 }
     {
         self.made = self.made.saturating_add(1);
-        let _faults = self.faults;
         let made = self.made;
         self.failing.iter().any(|number| u64::from(*number) == made)
     }

@@ -7,6 +7,7 @@
 // a fault that nothing outside gave.
 #![tactic(auto)]
 
+mod edge;
 mod failing_calls;
 mod faults;
 mod mem_file;
@@ -18,7 +19,8 @@ mod put;
 mod sink;
 mod source;
 
-pub use faults::{OpenFault, ReadFailed, WantOfMemory, WriteFailed};
+pub use edge::{FileOpener, FileSource, OutSink};
+pub use faults::{OpenFault, ReadFailed, WriteFailed};
 pub use mem_file::MemFile;
 pub use mem_opener::MemOpener;
 pub use mem_sink::MemSink;

@@ -4,7 +4,8 @@ ghost use Rattle.std.specs.Io.KnownBytes.{Appends};
 ghost use Rattle.desk_io.specs.Faults.{raised, Rose};
 
 use crate::failing_calls::FailingCalls;
-use crate::{Sink, WantOfMemory, WriteFailed};
+use crate::{Sink, WriteFailed};
+use scan_types::WantOfMemory;
 use std::alloc::Global;
 use std::marker::Model;
 
@@ -40,11 +41,8 @@ impl MemSink {
         requires { 1 ≤ piece }
         ensures { IfOk result (λ sink. sink ≡ record { written = []; room = room; piece = piece; failing = failing.items; writes = 0; faults = 0 }) }
     {
-        let Ok(bytes) = Vec::with_capacity(alloc, room) else {
-            return Err(WantOfMemory);
-        };
         Ok(MemSink {
-            bytes,
+            bytes: Vec::with_capacity(alloc, room)?,
             room,
             piece,
             calls: FailingCalls::new(failing),
