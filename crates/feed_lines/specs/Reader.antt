@@ -1,13 +1,10 @@
 -- A reader of one feed, as contracts see it, and what its parts stand for between two steps.
-use Rattle.std.specs.Prelude.{◌≡◌, ◌+◌, ◌*◌, ◌≤◌, ℕ, suc, Bool, true, false, List, [], ◌∷◌, ◌++◌, Option, Some, None, option_map, length, take, if◌then◌else◌}
-use Rattle.scan_types.specs.declared.rule.VoidRule.TheVariants.{Void}
-use Rattle.feed_definitions.specs.declared.accepted.Change.{Change}
-use Rattle.feed_definitions.specs.declared.accepted.Change.TheVariants.{Quote, Withdraw}
+use Rattle.std.specs.Prelude.{◌≡◌, ◌+◌, ◌*◌, ◌<◌, ◌≤◌, ℕ, suc, Bool, true, false, List, [], ◌∷◌, ◌++◌, Option, Some, None, option_map, length, take, slice_get}
 use Rattle.feed_definitions.specs.declared.step.Step.{Step}
-use Rattle.feed_definitions.specs.declared.step.Step.TheVariants.{Header, Line, NotBuilt, End, ReadFault}
 use Rattle.feed_definitions.specs.Lines.{ended_lines, unended}
 use Rattle.feed_definitions.specs.Numbers.{◌>>=◌}
-use Rattle.feed_definitions.specs.Plain.{LineText, book_of, plain_quote, matches_of}
+use Rattle.feed_definitions.specs.Plain.{LineText, book_of, plain_quote, matches_of, steps}
+use Rattle.feed_definitions.specs.Views.{feed_step, is_read_fault, ends_feed}
 
 -- the feed's number, the bytes taken so far, how many steps were answered, whether a read has answered that no bytes are left, whether
 -- the last step ended the feed, and the source
@@ -18,27 +15,6 @@ pub record ReaderView (S : Type 0) : Type 0 where
   pub drained : Bool
   pub over : Bool
   pub source : S
-
-abbrev pub is_read_fault : Step → Bool
-is_read_fault ReadFault = true
-is_read_fault _ = false
-
--- no step follows it
-abbrev pub ends_feed : Step → Bool
-ends_feed (Header header) = false
-ends_feed (Line accepted) = false
-ends_feed _ = true
-
--- a quote's limit is from 1 to 100,000,000
-abbrev pub HasLimitInRange : Change → Type 0
-HasLimitInRange (Quote odds limit) = (1 ≤ limit) × (limit ≤ 100000000)
-HasLimitInRange Withdraw = Unit {0}
-
--- a plain header's rule is that stakes are given back, and a quote's limit is in its range
-abbrev pub IsInForm : Step → Type 0
-IsInForm (Header header) = header.rule ≡ Void
-IsInForm (Line accepted) = HasLimitInRange accepted.change
-IsInForm _ = Unit {0}
 
 -- the quotes of the lines from number n on, after these, where each line is plain
 unfoldable pub quotes_from : List LineText → ℕ → List (List ℕ) → Option (List LineText)
@@ -64,3 +40,12 @@ pub record IsReader (bytes : List ℕ) (start lines : ℕ) (names : List (List �
   pub reading : over ≡ false → IsReading bytes start lines names
   pub not_drained : over ≡ false → drained ≡ false
   pub few_taken : length bytes ≤ 4198400
+
+-- the step is the item of this number, from 0, of the steps of these bytes; where it ends the feed, it is their last
+pub record IsItem (bytes : List ℕ) (number : ℕ) (step : Step) : Type 0 where
+  pub item : slice_get (steps (is_read_fault step) bytes) number ≡ Some (feed_step step)
+  pub last : ends_feed step ≡ true → steps (is_read_fault step) bytes ≡ take number (steps (is_read_fault step) bytes) ++ feed_step step ∷ []
+
+-- further bytes change no step
+abbrev pub IsWhole : List ℕ → Type 0
+IsWhole bytes = (more : List ℕ) → steps false (bytes ++ more) ≡ steps false bytes

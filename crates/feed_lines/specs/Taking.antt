@@ -1,6 +1,6 @@
 -- Bytes taken from a source, and how the next line stands in them.
-use Rattle.std.specs.Prelude.{◌≡◌, ◌+◌, ◌-◌, ◌<◌, ◌≤◌, ℕ, List, [], ◌∷◌, ◌++◌, Option, length, take, drop}
-use Rattle.std.specs.Io.KnownBytes.{Consumes, IsAtEnd}
+use Rattle.std.specs.Prelude.{◌≡◌, ◌+◌, ◌-◌, ◌<◌, ◌≤◌, ℕ, List, [], ◌∷◌, ◌++◌, Option, Bool, true, false, length, take, drop}
+use Rattle.std.specs.Io.KnownBytes.{Consumes}
 use Rattle.feed_definitions.specs.Lines.{pieces}
 use Rattle.feed_lines.specs.declared.taken.NextLine.{NextLine}
 use Rattle.feed_lines.specs.declared.taken.NextLine.TheVariants.{Ended, TooLong, Unended, ReadFault}
@@ -11,22 +11,28 @@ pub record Takes (left_old left_new : Option (List ℕ)) (old new : List ℕ) : 
   pub appended : new ≡ old ++ more
   pub given : Consumes left_old left_new more
 
+-- no line feed stands in the text
+abbrev pub IsOneLine : List ℕ → Type 0
+IsOneLine text = pieces text ≡ text ∷ []
+
 -- the line that begins at this index ends before the line feed at that one
 pub record IsEndedAt (bytes : List ℕ) (start end : ℕ) : Type 0 where
   pub after : start ≤ end
   pub within : end < length bytes
-  pub line : pieces (drop start bytes) ≡ take (end - start) (drop start bytes) ∷ pieces (drop (end + 1) bytes)
+  pub line : IsOneLine (take (end - start) (drop start bytes))
+  pub parts : drop start bytes ≡ take (end - start) (drop start bytes) ++ 10 ∷ drop (end + 1) bytes
 
--- no line feed stands from this index on
-abbrev pub IsOpen : List ℕ → ℕ → Type 0
-IsOpen bytes start = pieces (drop start bytes) ≡ drop start bytes ∷ []
+-- how the line that begins at this index stands in the bytes
+abbrev pub StandsSo : List ℕ → ℕ → NextLine → Type 0
+StandsSo bytes start (Ended end) = IsEndedAt bytes start end
+StandsSo bytes start TooLong = IsOneLine (drop start bytes) × (200 < length (drop start bytes))
+StandsSo bytes start Unended = IsOneLine (drop start bytes)
+StandsSo bytes start ReadFault = IsOneLine (drop start bytes)
 
-abbrev pub StandsSo : List ℕ → ℕ → Option (List ℕ) → NextLine → Type 0
-StandsSo bytes start left (Ended end) = IsEndedAt bytes start end
-StandsSo bytes start left TooLong = IsOpen bytes start × (200 < length (drop start bytes))
-StandsSo bytes start left Unended = IsOpen bytes start × IsAtEnd left
-StandsSo bytes start left ReadFault = IsOpen bytes start
+abbrev pub is_fault : NextLine → Bool
+is_fault ReadFault = true
+is_fault _ = false
 
-abbrev pub IsFault : NextLine → Type 0
-IsFault ReadFault = Unit {0}
-IsFault _ = ⊥
+abbrev pub is_unended : NextLine → Bool
+is_unended Unended = true
+is_unended _ = false

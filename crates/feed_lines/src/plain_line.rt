@@ -1,7 +1,7 @@
 // The lines of the plain feed text, each by itself.
-ghost use Rattle.std.specs.Prelude.{◌≡◌, option_map, IfSome};
-ghost use Rattle.feed_definitions.specs.Plain.{book_of, quote_of, side_of};
-ghost use Rattle.feed_definitions.specs.Views.{line_text};
+ghost use Rattle.std.specs.Prelude.{◌≡◌, ℕ, List, [], ◌∷◌, option_map, IfSome, MatchOption};
+ghost use Rattle.feed_definitions.specs.Plain.{fields, book_of, quote_of, side_of};
+ghost use Rattle.feed_definitions.specs.Views.{line_text, IsResultQuote, IsResult};
 
 use crate::cut::cut;
 use crate::limit_text::read_limit;
@@ -12,6 +12,9 @@ use scan_types::{Name, Selection};
 
 /// The last field of a line, which no space follows.
 fn last_field(text: &[u8]) -> Option<&[u8]>
+    ensures { MatchOption result
+        ((first : List ℕ) × (second : List ℕ) × (others : List (List ℕ)) × (fields text.now ≡ first ∷ second ∷ others))
+        (λ field. (field.now ≡ text.now) × (fields text.now ≡ text.now ∷ [])) }
 {
     match cut(text, b' ') {
         None => Some(text),
@@ -38,7 +41,8 @@ pub fn book_of(line: &[u8]) -> Option<Name>
 
 /// The result that a side names.
 fn side_of(word: &[u8]) -> Option<Selection>
-    ensures { result ≡ side_of word.now }
+    ensures side { result ≡ side_of word.now }
+    ensures of_result { IfSome result IsResult }
 {
     match word {
         b"home" => Some(Selection::Home),
@@ -52,6 +56,7 @@ fn side_of(word: &[u8]) -> Option<Selection>
 pub fn quote_of(line: &[u8], number: u32) -> Option<Accepted>
     ensures text { option_map line_text result ≡ quote_of line.now }
     ensures numbered { IfSome result (λ accepted. accepted.line ≡ number) }
+    ensures plain { IfSome result IsResultQuote }
 {
     if line.len() > MOST_LINE_BYTES {
         return None;

@@ -1,12 +1,12 @@
 // The reader of one feed.
-ghost use Rattle.std.specs.Prelude.{◌≡◌, ◌≢◌, ◌+◌, ◌-◌, ◌<◌, ◌≤◌, ℕ, List, [], ◌∷◌, ◌++◌, Bool, true, false, if◌then◌else◌, Some, length, take, slice_get, IfOk, IfSome, OnOk, OnErr, MatchOption};
+ghost use Rattle.std.specs.Prelude.{◌≡◌, ◌≢◌, ◌+◌, ◌-◌, ◌<◌, ◌≤◌, ℕ, List, [], ◌∷◌, ◌++◌, Bool, true, false, if◌then◌else◌, Some, length, take, slice_get, vec_len, vec_capacity, IfOk, OnOk, OnErr, MatchOption};
 ghost use Rattle.std.specs.Io.KnownBytes.{IsAtEnd};
 ghost use Rattle.desk_io.specs.Faults.{Rose};
 ghost use Rattle.feed_definitions.specs.Lines.{ended_lines};
 ghost use Rattle.feed_definitions.specs.Plain.{LineText, FeedStep, Book, Accepts, NotPlain, Ended, Failed, book_of, plain_quote, matches_of, steps};
-ghost use Rattle.feed_definitions.specs.Views.{feed_step};
-ghost use Rattle.feed_lines.specs.Taking.{Takes};
-ghost use Rattle.feed_lines.specs.Reader.{is_read_fault, ends_feed, IsInForm};
+ghost use Rattle.feed_definitions.specs.Views.{feed_step, is_read_fault, ends_feed, IsPlainStep, IsNumbered};
+ghost use Rattle.feed_lines.specs.Taking.{Takes, StandsSo, IsEndedAt, is_fault, is_unended};
+ghost use Rattle.feed_lines.specs.Reader.{IsReading, IsItem, IsWhole};
 
 use crate::limits::MOST_LINES;
 use crate::match_names::MatchNames;
@@ -21,7 +21,7 @@ use std::marker::Model;
 /// The step of a header line.
 fn header_step(line: &[u8]) -> Step
     ensures step { MatchOption (book_of line.now) (feed_step result ≡ NotPlain 1) (λ book. feed_step result ≡ Book book) }
-    ensures form { IsInForm result }
+    ensures form { IsPlainStep result }
 {
     match book_of(line) {
         Some(book) => Step::Header(Header {
@@ -41,7 +41,7 @@ fn quote_step(line: &[u8], number: u32, matches: &mut MatchNames) -> Step
             (feed_step result ≡ NotPlain number)
             (λ quote. (feed_step result ≡ Accepts number quote) × (matches_of (before ++ quote ∷ []) ≡ matches.new.names.items)) }
     ensures few { vec_len matches.new.names ≤ 256 }
-    ensures form { IsInForm result }
+    ensures form { IsPlainStep result }
 {
     if number > MOST_LINES {
         return Step::NotBuilt(number);
@@ -55,6 +55,59 @@ fn quote_step(line: &[u8], number: u32, matches: &mut MatchNames) -> Step
             }
         }
         None => Step::NotBuilt(number),
+    }
+}
+
+/// The step of the next line, which a line feed ends at this index. Passes over it, unless it is not plain.
+fn line_step(end: usize, number: u32, taken: &mut Taken, matches: &mut MatchNames) -> Step
+    requires room { 256 ≤ vec_capacity matches.old.names }
+    requires numbered { 1 ≤ number }
+    requires reading { IsReading taken.old.bytes.items taken.old.start (number - 1) matches.old.names.items }
+    requires ended { IsEndedAt taken.old.bytes.items taken.old.start end }
+    ensures item { IsItem taken.old.bytes.items (number - 1) result }
+    ensures reading { ends_feed result ≡ false → IsReading taken.new.bytes.items taken.new.start number matches.new.names.items }
+    ensures whole { ends_feed result ≡ true → IsWhole taken.old.bytes.items }
+    ensures bytes { taken.new.bytes.items ≡ taken.old.bytes.items }
+    ensures of_line { (is_read_fault result ≡ false) × (feed_step result ≢ Ended) }
+    ensures plain { IsPlainStep result }
+    ensures numbered { IsNumbered number result }
+{
+    let line = taken.line(end);
+    let step = if number == 1 {
+        header_step(line)
+    } else {
+        quote_step(line, number, matches)
+    };
+    taken.pass(end);
+    step
+}
+
+/// The step of the next line as it stands in the bytes taken.
+fn step_at(found: NextLine, number: u32, taken: &mut Taken, matches: &mut MatchNames) -> Step
+    requires room { 256 ≤ vec_capacity matches.old.names }
+    requires numbered { 1 ≤ number }
+    requires reading { IsReading taken.old.bytes.items taken.old.start (number - 1) matches.old.names.items }
+    requires stands { StandsSo taken.old.bytes.items taken.old.start found }
+    ensures item { IsItem taken.old.bytes.items (number - 1) result }
+    ensures reading { ends_feed result ≡ false → IsReading taken.new.bytes.items taken.new.start number matches.new.names.items }
+    ensures whole { ends_feed result ≡ true → is_fault found ≡ false → is_unended found ≡ false → IsWhole taken.old.bytes.items }
+    ensures bytes { taken.new.bytes.items ≡ taken.old.bytes.items }
+    ensures fault { is_read_fault result ≡ is_fault found }
+    ensures end { feed_step result ≡ Ended → is_unended found ≡ true }
+    ensures plain { IsPlainStep result }
+    ensures numbered { IsNumbered number result }
+{
+    match found {
+        NextLine::Ended(end) => line_step(end, number, taken, matches),
+        NextLine::TooLong => Step::NotBuilt(number),
+        NextLine::Unended => {
+            if number > 1 && taken.unended_bytes() == 0 {
+                Step::End
+            } else {
+                Step::NotBuilt(number)
+            }
+        }
+        NextLine::ReadFault => Step::ReadFault,
     }
 }
 
@@ -127,10 +180,13 @@ impl<S: Source + Drop> FeedReader<S> {
     pub fn next(&mut self) -> Result<Step, WantOfMemory>
         requires { self.old.over ≡ false }
         ensures step { IfOk result (λ step. slice_get (steps (is_read_fault step) self.new.taken) self.old.answers ≡ Some (feed_step step)) }
-        ensures last { IfOk result (λ step. ends_feed step ≡ true → length (steps (is_read_fault step) self.new.taken) ≡ self.new.answers) }
+        ensures last { IfOk result (λ step. ends_feed step ≡ true → steps (is_read_fault step) self.new.taken
+            ≡ take self.old.answers (steps (is_read_fault step) self.new.taken) ++ feed_step step ∷ []) }
         ensures counted { OnOk result (self.new.answers ≡ self.old.answers + 1) }
+        ensures few { OnOk result (self.old.answers ≤ 16384) }
         ensures over { IfOk result (λ step. self.new.over ≡ ends_feed step) }
-        ensures form { IfOk result IsInForm }
+        ensures plain { IfOk result IsPlainStep }
+        ensures numbered { IfOk result (IsNumbered (self.old.answers + 1)) }
         ensures feed { self.new.feed ≡ self.old.feed }
         ensures earlier { (failed later : Bool) → take self.old.answers (steps later self.new.taken) ≡ take self.old.answers (steps failed self.old.taken) }
         ensures taken { Takes (S.left self.old.source) (S.left self.new.source) self.old.taken self.new.taken }
@@ -138,10 +194,10 @@ impl<S: Source + Drop> FeedReader<S> {
         ensures whole { IfOk result (λ step. ends_feed step ≡ true → is_read_fault step ≡ false → (more : List ℕ) →
             S.left self.new.source ≡ Some more → steps false (self.new.taken ++ more) ≡ steps false self.new.taken) }
         ensures drained { self.new.drained ≡ true → IsAtEnd (S.left self.new.source) }
-        ensures end { IfOk result (λ step. step ≡ Step.End → self.new.drained ≡ true) }
-        ensures fault { IfOk result (λ step. step ≡ Step.ReadFault → Rose (S.faults self.old.source) (S.faults self.new.source)) }
+        ensures end { IfOk result (λ step. feed_step step ≡ Ended → self.new.drained ≡ true) }
+        ensures fault { IfOk result (λ step. is_read_fault step ≡ true → Rose (S.faults self.old.source) (S.faults self.new.source)) }
         ensures faults_kept { S.faults self.old.source ≤ S.faults self.new.source }
-        ensures promised { S.never_fails self.old.source → IfOk result (λ step. step ≢ Step.ReadFault) }
+        ensures promised { S.never_fails self.old.source → IfOk result (λ step. is_read_fault step ≡ false) }
         ensures promise_kept { S.never_fails self.old.source → S.never_fails self.new.source }
         ensures no_read { self.old.answers < length (ended_lines self.old.taken) → (self.new.taken ≡ self.old.taken) × (self.new.source ≡ self.old.source) }
         ensures bound { length self.new.taken ≤ 4198400 }
@@ -150,31 +206,10 @@ impl<S: Source + Drop> FeedReader<S> {
         self.matches.reserve()?;
         self.taken.reserve()?;
         let found = self.taken.next_line(&mut self.source);
-        let number = self.lines + 1;
-        let step = match found {
-            NextLine::Ended(end) => {
-                let line = self.taken.line(end);
-                let step = if self.lines == 0 {
-                    header_step(line)
-                } else {
-                    quote_step(line, number, &mut self.matches)
-                };
-                self.taken.pass(end);
-                step
-            }
-            NextLine::TooLong => Step::NotBuilt(number),
-            NextLine::Unended => {
-                self.drained = true;
-                if self.lines > 0 && self.taken.unended_bytes() == 0 {
-                    Step::End
-                } else {
-                    Step::NotBuilt(number)
-                }
-            }
-            NextLine::ReadFault => Step::ReadFault,
-        };
+        let step = step_at(found, self.lines + 1, &mut self.taken, &mut self.matches);
+        self.drained = matches!(found, NextLine::Unended);
         match step {
-            Step::Header(_) | Step::Line(_) => self.lines = number,
+            Step::Header(_) | Step::Line(_) => self.lines += 1,
             Step::NotBuilt(_) | Step::End | Step::ReadFault => self.over = true,
         }
         Ok(step)

@@ -1,9 +1,9 @@
 // The bytes taken from a source.
-ghost use Rattle.std.specs.Prelude.{◌≡◌, ◌+◌, ◌-◌, ◌*◌, ◌<◌, ◌≤◌, ℕ, List, [], ◌∷◌, ◌++◌, suc, length, take, drop, vec_len, vec_capacity, MatchOption, IfOk, IfErr, IsOk, OnOk, OnErr};
+ghost use Rattle.std.specs.Prelude.{◌≡◌, ◌+◌, ◌-◌, ◌*◌, ◌<◌, ◌≤◌, true, length, take, drop, vec_len, vec_capacity, MatchOption, IfOk, IsOk, OnOk, OnErr};
 ghost use Rattle.std.specs.Io.KnownBytes.{Consumes, Keeps, IsAtEnd};
 ghost use Rattle.feed_definitions.specs.Lines.{pieces};
 ghost use Rattle.desk_io.specs.Faults.{Rose};
-ghost use Rattle.feed_lines.specs.Taking.{Takes, IsEndedAt, StandsSo, IsFault};
+ghost use Rattle.feed_lines.specs.Taking.{Takes, IsOneLine, IsEndedAt, StandsSo, is_fault, is_unended};
 
 use crate::limits::{MOST_LINE_BYTES, MOST_TAKEN, READ_BYTES};
 use desk_io::{ReadFailed, Source};
@@ -58,7 +58,7 @@ impl Taken {
     fn line_feed_from(&self, from: usize) -> Option<usize>
         requires { from ≤ vec_len self.now.bytes }
         ensures { MatchOption result
-            (pieces (drop from self.now.bytes.items) ≡ drop from self.now.bytes.items ∷ [])
+            (IsOneLine (drop from self.now.bytes.items))
             (λ end. IsEndedAt self.now.bytes.items from end) }
     {
         let at = self.bytes[from..].iter().position(|byte| *byte == b'\n')?;
@@ -93,14 +93,15 @@ impl Taken {
         requires early { self.old.start ≤ 201 * 16384 }
         ensures start { self.new.start ≡ self.old.start }
         ensures takes { Takes (S.left source.old) (S.left source.new) self.old.bytes.items self.new.bytes.items }
-        ensures stands { StandsSo self.new.bytes.items self.new.start (S.left source.new) result }
+        ensures stands { StandsSo self.new.bytes.items self.new.start result }
+        ensures at_end { is_unended result ≡ true → IsAtEnd (S.left source.new) }
         ensures no_read { 1 < length (pieces (drop self.old.start self.old.bytes.items)) →
             (self.new.bytes.items ≡ self.old.bytes.items) × (source.new ≡ source.old) }
         ensures bound { vec_len self.new.bytes ≤ 4198400 }
-        ensures failed { IsFault result → Rose (S.faults source.old) (S.faults source.new) }
+        ensures failed { is_fault result ≡ true → Rose (S.faults source.old) (S.faults source.new) }
         ensures faults_kept { S.faults source.old ≤ S.faults source.new }
         ensures is_later { S.later source.old source.new }
-        ensures promised { S.never_fails source.old → IsFault result → ⊥ }
+        ensures promised { S.never_fails source.old → is_fault result ≡ true → ⊥ }
         ensures promise_kept { S.never_fails source.old → S.never_fails source.new }
     {
         let mut from = self.start;
