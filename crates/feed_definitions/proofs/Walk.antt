@@ -26,7 +26,7 @@ line_steps_stay e f (line ∷ lines) more (suc k) h =
     [ None ↦ refl
     | Some book ↦ ap (λ l. Book book ∷ l) (quote_steps_stay e f [] 2 lines more k (omega arith)) ]
 
-not_plain : (before : List LineText) (n : ℕ) (bad : List ℕ) → quote_of bad ≡ None → plain_quote before n bad ≡ None
+pub not_plain : (before : List LineText) (n : ℕ) (bad : List ℕ) → quote_of bad ≡ None → plain_quote before n bad ≡ None
 unfolding plain_quote
 not_plain before n bad h = ap (λ o. option_and_then (λ quote. cond (leb n most_lines && has_room before quote.match_name) (Some quote) None) o) h
 

@@ -1,0 +1,6 @@
+pub mod Walks
+pub mod Splits
+pub mod Numbers
+pub mod PlainLines
+pub mod Starts
+pub mod Quoting

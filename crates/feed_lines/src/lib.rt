@@ -2,7 +2,7 @@
 //!
 //! - `reader`: `FeedReader`, whose steps are those of the feed text whatever pieces it comes in.
 //! - `taken`: the bytes taken from a source, and its reads.
-//! - `plain_line`: the header and the quotes that a line may be; `cut` takes fields off a line.
+//! - `plain_line`: the header and the quotes that a line may be; `fields` takes a line apart.
 //! - `odds_text`, `limit_text`, `number_text`: numbers as a feed writes them.
 //! - `match_names`: the matches that were quoted so far.
 //! - `limits`: the largest sizes.
@@ -11,7 +11,7 @@
 //! of its line, of the reads that it makes, and in the number of match names so far, at most 256.
 #![tactic(auto)]
 
-mod cut;
+mod fields;
 pub mod limits;
 mod limit_text;
 mod match_names;

@@ -33,15 +33,23 @@ impl MatchNames {
         Ok(())
     }
 
+    /// Whether the name stands among the others.
+    fn contains(&self, name: &Name) -> bool
+        ensures { result ≡ list_any (λ other. bytes_eq other name.now) self.now.names.items }
+    {
+        self.names.iter().any(|other| *other == *name)
+    }
+
     /// Puts the name among the others, and answers whether it stands there now: not where it is new and 256 stand already.
     pub fn admit(&mut self, name: Name) -> bool
         requires room { 256 ≤ vec_capacity self.old.names }
         requires few { vec_len self.old.names ≤ 256 }
-        ensures answer { result ≡ (list_any (λ other. bytes_eq other name) self.old.names.items || nat_lt (vec_len self.old.names) 256) }
-        ensures names { self.new.names.items ≡ (if list_any (λ other. bytes_eq other name) self.old.names.items || nat_lt 255 (vec_len self.old.names)
+        ensures answer { result ≡ (list_any (λ other. bytes_eq other name) self.old.names.items || nat_lt (length self.old.names.items) 256) }
+        ensures names { self.new.names.items ≡ (if list_any (λ other. bytes_eq other name) self.old.names.items || nat_lt 255 (length self.old.names.items)
             then self.old.names.items else self.old.names.items ++ name ∷ []) }
+        ensures few { vec_len self.new.names ≤ 256 }
     {
-        if self.names.iter().any(|other| *other == name) {
+        if self.contains(&name) {
             return true;
         }
         if self.names.len() >= MOST_MATCHES {

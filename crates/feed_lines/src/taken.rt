@@ -1,10 +1,11 @@
 // The bytes taken from a source.
-ghost use Rattle.std.specs.Prelude.{◌≡◌, ◌+◌, ◌-◌, ◌*◌, ◌<◌, ◌≤◌, true, length, take, drop, vec_len, vec_capacity, MatchOption, IfOk, IsOk, OnOk, OnErr};
+ghost use Rattle.std.specs.Prelude.{◌≡◌, ◌+◌, ◌-◌, ◌*◌, ◌<◌, ◌≤◌, [], true, length, take, drop, vec_len, vec_capacity, MatchOption, IfOk, IsOk, OnOk, OnErr};
 ghost use Rattle.std.specs.Io.KnownBytes.{Consumes, Keeps, IsAtEnd};
 ghost use Rattle.feed_definitions.specs.Lines.{pieces};
 ghost use Rattle.desk_io.specs.Faults.{Rose};
 ghost use Rattle.feed_lines.specs.Taking.{Takes, IsOneLine, IsEndedAt, StandsSo, is_fault, is_unended};
 
+use crate::fields::find;
 use crate::limits::{MOST_LINE_BYTES, MOST_TAKEN, READ_BYTES};
 use desk_io::{ReadFailed, Source};
 use scan_types::WantOfMemory;
@@ -61,8 +62,10 @@ impl Taken {
             (IsOneLine (drop from self.now.bytes.items))
             (λ end. IsEndedAt self.now.bytes.items from end) }
     {
-        let at = self.bytes[from..].iter().position(|byte| *byte == b'\n')?;
-        Some(from + at)
+        match find(&self.bytes[from..], b'\n') {
+            None => None,
+            Some(at) => Some(from + at),
+        }
     }
 
     /// Makes one read, and answers how many bytes it took: 0 only where none are left.
