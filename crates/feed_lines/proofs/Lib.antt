@@ -4,3 +4,5 @@ pub mod Numbers
 pub mod PlainLines
 pub mod Starts
 pub mod Quoting
+pub mod Outcomes
+pub mod Reading

@@ -48,6 +48,11 @@ abbrev pub from : (ℕ → FeedStep) → List LineText → ℕ → List (List �
 from e quotes zero lines = line_steps e lines
 from e quotes (suc k) lines = quote_steps e quotes (suc (suc k)) lines
 
+pub from_none : (e : ℕ → FeedStep) (quotes : List LineText) (k : ℕ) → from e quotes k [] ≡ e (suc k) ∷ []
+unfolding line_steps quote_steps
+from_none e quotes zero = refl
+from_none e quotes (suc k) = refl
+
 pub record Walked (lines : List (List ℕ)) (quotes : List LineText) : Type 0 where
   pub answered : List FeedStep
   pub count : length answered ≡ length lines
@@ -84,7 +89,7 @@ quotes_from_more before n (first ∷ lines) line quotes quote h is =
         (λ one one_is rest. ap (option_and_then (λ quote. quotes_from (before ++ quote ∷ []) (suc n) (lines ++ line ∷ []))) one_is
             ∙ quotes_from_more (before ++ one ∷ []) (suc n) lines line quotes quote rest is)
 
-quotes_of_more : (lines : List (List ℕ)) (line : List ℕ) (quotes : List LineText) (quote : LineText) (k : ℕ) →
+pub quotes_of_more : (lines : List (List ℕ)) (line : List ℕ) (quotes : List LineText) (quote : LineText) (k : ℕ) →
     length lines ≡ suc k → quotes_of lines ≡ Some quotes → plain_quote quotes (suc (suc k)) line ≡ Some quote →
     quotes_of (lines ++ line ∷ []) ≡ Some (quotes ++ quote ∷ [])
 unfolding quotes_of
@@ -94,12 +99,12 @@ quotes_of_more (header ∷ lines) line quotes quote k count h is =
         (λ book book_is rest. ap (option_and_then (λ book. quotes_from [] 2 (lines ++ line ∷ []))) book_is
             ∙ quotes_from_more [] 2 lines line quotes quote rest (ap (λ n. plain_quote quotes n line) (past_is 2 lines ∙ omega (arith, count)) ∙ is))
 
-quotes_of_header : (lines : List (List ℕ)) (header book : List ℕ) → length lines ≡ 0 → book_of header ≡ Some book → quotes_of (lines ++ header ∷ []) ≡ Some []
+pub quotes_of_header : (lines : List (List ℕ)) (header book : List ℕ) → length lines ≡ 0 → book_of header ≡ Some book → quotes_of (lines ++ header ∷ []) ≡ Some []
 unfolding quotes_of quotes_from
 quotes_of_header [] header book count h = ap (option_and_then (λ book. Some [])) h
 quotes_of_header (line ∷ lines) header book count h = absurd (omega (arith, count))
 
-quotes_of_none : (lines : List (List ℕ)) → length lines ≡ 0 → quotes_of lines ≡ Some []
+pub quotes_of_none : (lines : List (List ℕ)) → length lines ≡ 0 → quotes_of lines ≡ Some []
 unfolding quotes_of
 quotes_of_none [] count = refl
 quotes_of_none (line ∷ lines) count = absurd (omega (arith, count))

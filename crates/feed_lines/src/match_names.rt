@@ -1,5 +1,5 @@
 // The matches that a feed has quoted so far.
-ghost use Rattle.std.specs.Prelude.{◌≡◌, ◌≤◌, [], ◌∷◌, ◌++◌, ◌||◌, if◌then◌else◌, nat_lt, length, vec_len, vec_capacity, OnOk};
+ghost use Rattle.std.specs.Prelude.{◌≡◌, ◌≤◌, [], ◌∷◌, ◌++◌, ◌||◌, if◌then◌else◌, nat_lt, length, vec_capacity, OnOk};
 ghost use Rattle.std.specs.List.{list_any};
 ghost use Rattle.std.specs.Str.{bytes_eq};
 
@@ -25,7 +25,7 @@ impl MatchNames {
 
     /// Makes room for all names that a feed may bring.
     pub fn reserve(&mut self) -> Result<(), WantOfMemory>
-        requires { vec_len self.old.names ≤ 256 }
+        requires { length self.old.names.items ≤ 256 }
         ensures same { self.new.names.items ≡ self.old.names.items }
         ensures room { OnOk result (256 ≤ vec_capacity self.new.names) }
     {
@@ -43,11 +43,11 @@ impl MatchNames {
     /// Puts the name among the others, and answers whether it stands there now: not where it is new and 256 stand already.
     pub fn admit(&mut self, name: Name) -> bool
         requires room { 256 ≤ vec_capacity self.old.names }
-        requires few { vec_len self.old.names ≤ 256 }
+        requires few { length self.old.names.items ≤ 256 }
         ensures answer { result ≡ (list_any (λ other. bytes_eq other name) self.old.names.items || nat_lt (length self.old.names.items) 256) }
         ensures names { self.new.names.items ≡ (if list_any (λ other. bytes_eq other name) self.old.names.items || nat_lt 255 (length self.old.names.items)
             then self.old.names.items else self.old.names.items ++ name ∷ []) }
-        ensures few { vec_len self.new.names ≤ 256 }
+        ensures few { length self.new.names.items ≤ 256 }
     {
         if self.contains(&name) {
             return true;

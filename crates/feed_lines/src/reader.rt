@@ -1,5 +1,5 @@
 // The reader of one feed.
-ghost use Rattle.std.specs.Prelude.{◌≡◌, ◌≢◌, ◌+◌, ◌-◌, ◌<◌, ◌≤◌, ℕ, List, [], ◌∷◌, ◌++◌, Bool, true, false, if◌then◌else◌, Some, length, take, slice_get, vec_len, vec_capacity, IfOk, OnOk, OnErr, MatchOption};
+ghost use Rattle.std.specs.Prelude.{◌≡◌, ◌≢◌, ◌+◌, ◌-◌, ◌<◌, ◌≤◌, ℕ, List, [], ◌∷◌, ◌++◌, Bool, true, false, if◌then◌else◌, Some, length, take, slice_get, vec_capacity, IfOk, OnOk, OnErr, MatchOption};
 ghost use Rattle.std.specs.Io.KnownBytes.{IsAtEnd};
 ghost use Rattle.desk_io.specs.Faults.{Rose};
 ghost use Rattle.feed_definitions.specs.Lines.{ended_lines};
@@ -35,12 +35,12 @@ fn header_step(line: &[u8]) -> Step
 /// The step of the line of this number, which is not the header.
 fn quote_step(line: &[u8], number: u32, matches: &mut MatchNames) -> Step
     requires room { 256 ≤ vec_capacity matches.old.names }
-    requires few { vec_len matches.old.names ≤ 256 }
+    requires few { length matches.old.names.items ≤ 256 }
     ensures step { (before : List LineText) → matches_of before ≡ matches.old.names.items →
         MatchOption (plain_quote before number line.now)
             (feed_step result ≡ NotPlain number)
             (λ quote. (feed_step result ≡ Accepts number quote) × (matches_of (before ++ quote ∷ []) ≡ matches.new.names.items)) }
-    ensures few { vec_len matches.new.names ≤ 256 }
+    ensures few { length matches.new.names.items ≤ 256 }
     ensures form { IsPlainStep result }
 {
     if number > MOST_LINES {
