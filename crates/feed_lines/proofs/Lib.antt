@@ -6,3 +6,5 @@ pub mod Starts
 pub mod Quoting
 pub mod Outcomes
 pub mod Reading
+pub mod Takings
+pub mod Between

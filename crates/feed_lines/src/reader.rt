@@ -94,6 +94,7 @@ fn step_at(found: NextLine, number: u32, taken: &mut Taken, matches: &mut MatchN
     ensures bytes { taken.new.bytes.items ≡ taken.old.bytes.items }
     ensures fault { is_read_fault result ≡ is_fault found }
     ensures end { feed_step result ≡ Ended → is_unended found ≡ true }
+    ensures drained { is_unended found ≡ true → ends_feed result ≡ true }
     ensures plain { IsPlainStep result }
     ensures numbered { IsNumbered number result }
 {

@@ -46,7 +46,7 @@ impl Taken {
 
     /// Makes room for all bytes that a reader may take.
     pub fn reserve(&mut self) -> Result<(), WantOfMemory>
-        requires { vec_len self.old.bytes ≤ 4198400 }
+        requires { length self.old.bytes.items ≤ 4198400 }
         ensures same { self.new.bytes.items ≡ self.old.bytes.items }
         ensures start { self.new.start ≡ self.old.start }
         ensures room { OnOk result (4198400 ≤ vec_capacity self.new.bytes) }
@@ -94,13 +94,14 @@ impl Taken {
     pub fn next_line<S: Source>(&mut self, source: &mut S) -> NextLine
         requires room { 4198400 ≤ vec_capacity self.old.bytes }
         requires early { self.old.start ≤ 201 * 16384 }
+        requires few { length self.old.bytes.items ≤ 4198400 }
         ensures start { self.new.start ≡ self.old.start }
         ensures takes { Takes (S.left source.old) (S.left source.new) self.old.bytes.items self.new.bytes.items }
         ensures stands { StandsSo self.new.bytes.items self.new.start result }
         ensures at_end { is_unended result ≡ true → IsAtEnd (S.left source.new) }
         ensures no_read { 1 < length (pieces (drop self.old.start self.old.bytes.items)) →
             (self.new.bytes.items ≡ self.old.bytes.items) × (source.new ≡ source.old) }
-        ensures bound { vec_len self.new.bytes ≤ 4198400 }
+        ensures few { length self.new.bytes.items ≤ 4198400 }
         ensures failed { is_fault result ≡ true → Rose (S.faults source.old) (S.faults source.new) }
         ensures faults_kept { S.faults source.old ≤ S.faults source.new }
         ensures is_later { S.later source.old source.new }
