@@ -1,7 +1,7 @@
 -- The first item of a list that passes a test, and the list without it.
-use Rattle.std.proofs.Common.{◌≡◌, ◌<◌, ◌+◌, ℕ, suc, zero, Bool, true, false, not, cond, ltb, Option, Some, None, List, [], ◌∷◌, ◌++◌, length, get_or, take, drop, refl, sym, ◌∙◌, ap, add-one, arith}
+use Rattle.std.proofs.Common.{◌≡◌, ◌<◌, ◌+◌, ℕ, suc, Bool, true, false, not, cond, ltb, Some, None, List, [], ◌∷◌, ◌++◌, length, get_or, take, drop, refl, sym, ◌∙◌, ap, add-one, arith}
 use Rattle.std.specs.List.{filter, position, position_or_len, remove}
-use Rattle.std.proofs.lemmas.List.{take-append-drop, drop_more, get_or-take, length-take-le, get_or_read}
+use Rattle.std.proofs.lemmas.List.{take-append-drop, drop_more, get_or-take, length-take-le}
 use Rattle.std.proofs.lemmas.List.Elements.{filter-append}
 use Rattle.std.proofs.lemmas.List.Quantifiers.{position-Some}
 use Rattle.std.proofs.lemmas.List.Sums.{prefix_len_passes}
@@ -45,8 +45,8 @@ module _ {X : Type 0} (p : X → Bool) where
       let passes : p x ≡ true = ap p is ∙ here.1 in
       let shorter : length (take k xs) ≡ k = length-take-le k xs (omega (arith, here.0)) in
       let front : filter p (take k xs) ≡ [] = none_passes (take k xs) (λ j d within.
-        let before : j < k = omega (arith, within, shorter) in
-        ap p (get_or-take k xs j d before) ∙ (position-Some p xs k d found).2 j before) in
+      let before : j < k = omega (arith, within, shorter) in
+      ap p (get_or-take k xs j d before) ∙ (position-Some p xs k d found).2 j before) in
       filter_split xs k x here.0 is
       ∙ ap (λ b. filter p (take k xs) ++ cond b (x ∷ filter p (drop (suc k) xs)) (filter p (drop (suc k) xs))) passes
       ∙ ap (λ l. l ++ x ∷ filter p (drop (suc k) xs)) front

@@ -1,5 +1,5 @@
 -- What is left of a list of bytes while it is passed on in parts, from the first byte on.
-use Rattle.std.proofs.Common.{◌≡◌, ◌≤◌, ◌<◌, ◌+◌, ◌-◌, ℕ, List, ◌++◌, length, take, drop, sym, ◌∙◌, ap, subst, arith, length-drop}
+use Rattle.std.proofs.Common.{◌≡◌, ◌≤◌, ◌<◌, ◌+◌, ◌-◌, ℕ, List, ◌++◌, length, take, drop, sym, ◌∙◌, ap, arith, length-drop}
 use Rattle.std.proofs.Math.Seq.{take-add}
 use Rattle.std.proofs.lemmas.List.{take_rest, drop-drop, take_at, length-take-le, take-append-drop}
 
@@ -40,5 +40,5 @@ pub copied_and_left : (bytes copied tail : List ℕ) (at count : ℕ) → copied
 copied_and_left bytes copied tail at count is_copy fits =
     let front : take count (copied ++ tail) ≡ take count (drop at bytes) = take_at copied tail count (ap length is_copy ∙ length-take-le count (drop at bytes) fits) ∙ is_copy in
     sym (ap (λ l. l ++ drop (at + count) bytes) front
-      ∙ ap (λ l. take count (drop at bytes) ++ l) (sym (drop-drop count at bytes))
-      ∙ take-append-drop count (drop at bytes))
+    ∙ ap (λ l. take count (drop at bytes) ++ l) (sym (drop-drop count at bytes))
+    ∙ take-append-drop count (drop at bytes))

@@ -1,6 +1,5 @@
 -- Counts of faults: numbers below 2^64 that never fall.
 use Rattle.std.specs.Prelude.{ℕ, ◌+◌, ◌-◌, ◌^◌, ◌≤◌, min}
-use Rattle.std.proofs.Common.{arith}
 
 -- one more, and at the type's end no more
 abbrev pub raised : ℕ → ℕ
@@ -9,9 +8,3 @@ raised count = min (count + 1) (2 ^ 64 - 1)
 -- the count rose, or stands at its type's end
 abbrev pub Rose : ℕ → ℕ → Type 0
 Rose old new = raised old ≤ new
-
-pub le_itself : (count : ℕ) → count ≤ count
-le_itself count = omega arith
-
-pub le_further : (first second third : ℕ) → first ≤ second → second ≤ third → first ≤ third
-le_further first second third to_second to_third = omega (arith, to_second, to_third)

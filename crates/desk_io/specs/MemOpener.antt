@@ -1,5 +1,5 @@
 -- Files in memory and their opener, as contracts see them.
-use Rattle.std.specs.Prelude.{◌≡◌, ◌≢◌, List, ◌∷◌, ℕ, All, filter, map, []}
+use Rattle.std.specs.Prelude.{◌≡◌, List, ◌∷◌, ℕ, All, filter, map, []}
 use Rattle.std.specs.Str.{bytes_eq}
 use Rattle.desk_io.specs.MemSource.{SourceState}
 

@@ -1,6 +1,6 @@
 // The real outside: files of std, and standard output. Nothing is told of their bytes.
 ghost use Rattle.std.specs.Prelude.{◌≡◌, ◌≤◌, None, []};
-ghost use Rattle.desk_io.specs.Faults.{le_itself, le_further};
+ghost use Rattle.std.proofs.Math.Nat.{le_refl, le_trans};
 
 use crate::{OpenFault, Opener, ReadFailed, Sink, Source, WriteFailed};
 use std::fs;
@@ -46,13 +46,10 @@ impl<R: Files> Opener for FileOpener<R> {
     fn open_feed(&mut self, name: &str) -> Result<FileSource<R::File>, OpenFault> {
         match fs::open(&self.files, name) {
             Ok(file) => Ok(FileSource::new(file)),
-            Err(error) => {
+            Err(error) if error.kind() == ErrorKind::OutOfMemory => Err(OpenFault::WantOfMemory),
+            Err(_) => {
                 self.faults = self.faults.saturating_add(1);
-                if error.kind() == ErrorKind::OutOfMemory {
-                    Err(OpenFault::WantOfMemory)
-                } else {
-                    Err(OpenFault::Failed)
-                }
+                Err(OpenFault::Failed)
             }
         }
     }
@@ -93,9 +90,9 @@ impl<F: Read> Source for FileSource<F> {
 
     ghost later = { λ before after. before ≤ after };
 
-    ghost later_reflexive = { le_itself };
+    ghost later_reflexive = { le_refl };
 
-    ghost later_transitive = { le_further };
+    ghost later_transitive = { λ _ _ _ to_second to_third. le_trans to_second to_third };
 
     ghost later_gives = { λ _ _ _. ([], tt) };
 

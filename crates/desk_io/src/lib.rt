@@ -1,10 +1,16 @@
-// The outside of the program as three traits: what opens a feed, what a feed is read from, and what a report is written to.
-//
-// - `Source`, `Sink`, `Opener`: the traits, with what each call does to the bytes that are told.
-// - `put_all`: writes all of some bytes.
-//
-// A fault is answered only where the count of faults of that very object rose in the call, so that no caller has to believe
-// a fault that nothing outside gave.
+//! The outside of the program: where feeds are opened and read, and where a report is written.
+//!
+//! - `source`, `sink`, `opener`: the three traits. Their clauses say what each call does to the bytes
+//!   that are left, written or still to be opened, for an object that tells them.
+//! - `put`: writing all of some bytes, in as many writes as the sink takes.
+//! - `mem_source`, `mem_sink`, `mem_file`, `mem_opener`: objects in memory, which tell their bytes and
+//!   fail at the calls that a test names.
+//! - `edge`: files and standard output. They tell nothing, so every theorem above holds for them with
+//!   whatever bytes the system gives or takes.
+//! - `faults`: what the calls answer where they do not succeed.
+//!
+//! Each object counts its faults, and a call answers a fault only where that object's own count rose
+//! in that very call. So a layer above cannot make up a fault that nothing outside gave.
 #![tactic(auto)]
 
 mod edge;
@@ -29,3 +35,6 @@ pub use opener::Opener;
 pub use put::put_all;
 pub use sink::Sink;
 pub use source::Source;
+
+#[cfg(test)]
+mod tests;

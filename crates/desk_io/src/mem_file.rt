@@ -20,16 +20,27 @@ impl Model for MemFile {
 
     ghost Value = { FileState };
 
-    ghost view = { λ f. record { name = string_bytes f.name; bytes = f.bytes.items; piece = f.piece; failing = f.failing.items } };
+    ghost view = { λ f. record {
+      name = string_bytes f.name;
+      bytes = f.bytes.items;
+      piece = f.piece;
+      failing = f.failing.items;
+    } };
 
     ghost invariant = { λ f. 1 ≤ f.piece };
 }
 
 impl MemFile {
-    /// A file of this name with these bytes, at most `piece` of them a read. `failing` has the numbers, from 1 on, of the reads that fail.
+    /// A file of this name with these bytes, at most `piece` of them a read. `failing` has the numbers,
+    /// from 1 on, of the reads that fail.
     pub fn of(name: String, bytes: Vec<u8>, piece: usize, failing: Vec<u32>) -> MemFile
         requires { 1 ≤ piece }
-        ensures { result ≡ record { name = string_bytes name; bytes = bytes.items; piece = piece; failing = failing.items } }
+        ensures { result ≡ record {
+          name = string_bytes name;
+          bytes = bytes.items;
+          piece = piece;
+          failing = failing.items;
+        } }
     {
         MemFile {
             name,

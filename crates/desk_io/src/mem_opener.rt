@@ -1,8 +1,7 @@
 // Files in memory and their opener.
-ghost use Rattle.std.specs.Prelude.{◌≡◌, ◌≢◌, ◌↔◌, ◌⊎◌, ◌<◌, ◌≤◌, ◌^◌, [], Some, None, List, ℕ, position, if◌then◌else◌, is_err, string_bytes, Contains, IfOk, IsErr, IsErrOf, OnOk, OnErr};
+ghost use Rattle.std.specs.Prelude.{◌≡◌, ◌≢◌, ◌↔◌, ◌⊎◌, ◌<◌, ◌≤◌, ◌^◌, [], Some, List, ℕ, position, if◌then◌else◌, is_err, Contains, IfOk, IsErr, IsErrOf, OnOk, OnErr};
 ghost use Rattle.std.specs.Str.{bytes_eq};
-ghost use Rattle.desk_io.specs.Faults.{raised, Rose};
-ghost use Rattle.desk_io.specs.Opener.{OpensFirst, SameUnderOthers, SameUnderAll};
+ghost use Rattle.desk_io.specs.Faults.{raised};
 ghost use Rattle.desk_io.specs.MemOpener.{files_under, bytes_under, AllNeverFail, OpensFirstFile};
 
 use crate::failing_calls::FailingCalls;
@@ -10,8 +9,8 @@ use crate::mem_file::MemFile;
 use crate::{MemSource, OpenFault, Opener};
 use std::marker::Model;
 
-/// Opens files in memory, each once, and those of one name in the order of the list. Openings fail by their number, and where
-/// no file of the name is left.
+/// Opens files in memory, each once, and those of one name in the order of the list. Openings fail by
+/// their number, and where no file of the name is left. An opening takes no memory.
 #[derive(Drop)]
 pub struct MemOpener {
     files: Vec<MemFile>,
@@ -23,13 +22,23 @@ impl Model for MemOpener {
 
     ghost Value = { OpenerState };
 
-    ghost view = { λ o. record { files = o.files.items; failing = o.calls.failing.items; openings = o.calls.made; faults = o.calls.faults } };
+    ghost view = { λ o. record {
+      files = o.files.items;
+      failing = o.calls.failing.items;
+      openings = o.calls.made;
+      faults = o.calls.faults;
+    } };
 }
 
 impl MemOpener {
     /// An opener of these files. `failing` has the numbers, from 1 on, of the openings that fail.
     pub fn new(files: Vec<MemFile>, failing: Vec<u32>) -> MemOpener
-        ensures { result ≡ record { files = files.items; failing = failing.items; openings = 0; faults = 0 } }
+        ensures { result ≡ record {
+          files = files.items;
+          failing = failing.items;
+          openings = 0;
+          faults = 0;
+        } }
     {
         MemOpener {
             files,
@@ -54,25 +63,27 @@ impl Opener for MemOpener {
     ghost promises = { λ o. AllNeverFail o.files };
 
     fn open_feed(&mut self, name: &str) -> Result<MemSource, OpenFault>
-        ensures fresh { IfOk result (λ source. source.faults ≡ 0) }
-        ensures opened { IfOk result (λ source. OpensFirst (Some (bytes_under name.now self.old.files)) (Some (bytes_under name.now self.new.files)) (Some source.left)) }
-        ensures others { OnOk result (SameUnderOthers name.now (λ other. Some (bytes_under other self.old.files)) (λ other. Some (bytes_under other self.new.files))) }
-        ensures nothing_opened { OnErr result (SameUnderAll (λ other. Some (bytes_under other self.old.files)) (λ other. Some (bytes_under other self.new.files))) }
-        ensures failed { IsErrOf result OpenFault.Failed → Rose self.old.faults self.new.faults }
+        // Exactly the openings with these numbers fail, and those of a name that has no file left.
+        // None wants memory.
+        ensures counted { self.new.openings ≡ raised self.old.openings }
+        ensures fails { IsErr result ↔
+            (Contains self.old.failing self.new.openings ⊎ (files_under name.now self.old.files ≡ [])) }
+        ensures only_failed { OnErr result (IsErrOf result OpenFault.Failed) }
+        ensures faults { self.new.faults ≡
+            (if is_err result then raised self.old.faults else self.old.faults) }
         ensures faults_kept { self.old.faults ≤ self.new.faults }
         ensures faults_fit { self.new.faults < 2 ^ 64 }
-        ensures promised { AllNeverFail self.old.files → IfOk result (λ source. source.failing ≡ []) }
-        ensures promise_kept { AllNeverFail self.old.files → AllNeverFail self.new.files }
-
-        // Exactly the openings with these numbers fail, and those of a name that has no file left. It never wants memory.
-        ensures counted { self.new.openings ≡ raised self.old.openings }
-        ensures fails { IsErr result ↔ (Contains self.old.failing self.new.openings ⊎ (files_under name.now self.old.files ≡ [])) }
-        ensures only_failed { OnErr result (IsErrOf result OpenFault.Failed) }
-        ensures first_file { IfOk result (OpensFirstFile name.now self.old.files self.new.files) }
-        ensures other_files { OnOk result ((other : List ℕ) → other ≢ name.now → files_under other self.new.files ≡ files_under other self.old.files) }
         ensures same_files { OnErr result (self.new.files ≡ self.old.files) }
+
+        // Each of the others opens the first file of the name.
+        ensures first_file { IfOk result (OpensFirstFile name.now self.old.files self.new.files) }
+        ensures other_files { OnOk result ((other : List ℕ) → other ≢ name.now →
+            files_under other self.new.files ≡ files_under other self.old.files) }
+
+        ensures promised { AllNeverFail self.old.files →
+            IfOk result (λ source. source.failing ≡ []) }
+        ensures promise_kept { AllNeverFail self.old.files → AllNeverFail self.new.files }
         ensures same_failing { self.new.failing ≡ self.old.failing }
-        ensures one_fault { self.new.faults ≡ (if is_err result then raised self.old.faults else self.old.faults) }
     {
         let fails = self.calls.next_fails();
         match self.first_under(name) {

@@ -1,7 +1,6 @@
 // A sink in memory.
 ghost use Rattle.std.specs.Prelude.{◌≡◌, ◌↔◌, ◌⊎◌, ◌<◌, ◌≤◌, ◌^◌, ◌+◌, ◌++◌, [], Some, length, take, min, if◌then◌else◌, is_err, Contains, IfOk, IsErr, OnErr};
-ghost use Rattle.std.specs.Io.KnownBytes.{Appends};
-ghost use Rattle.desk_io.specs.Faults.{raised, Rose};
+ghost use Rattle.desk_io.specs.Faults.{raised};
 
 use crate::failing_calls::FailingCalls;
 use crate::{Sink, WriteFailed};
@@ -10,6 +9,7 @@ use std::alloc::Global;
 use std::marker::Model;
 
 /// Keeps what is written to it, up to its room. Writes fail by their number, and where no room is left.
+/// A write takes no memory.
 #[derive(Drop)]
 pub struct MemSink {
     bytes: Vec<u8>,
@@ -24,14 +24,21 @@ impl Model for MemSink {
 
     ghost Value = { SinkState };
 
-    ghost view = { λ s. record { written = s.bytes.items; room = s.room; piece = s.piece; failing = s.calls.failing.items; writes = s.calls.made; faults = s.calls.faults } };
+    ghost view = { λ s. record {
+      written = s.bytes.items;
+      room = s.room;
+      piece = s.piece;
+      failing = s.calls.failing.items;
+      writes = s.calls.made;
+      faults = s.calls.faults;
+    } };
 
     ghost invariant = { λ s. (vec_len s.bytes + s.room ≤ vec_capacity s.bytes) × (1 ≤ s.piece) };
 }
 
 impl MemSink {
-    /// An empty sink with room for so many bytes, that takes at most `piece` of them a write. `failing` has the numbers,
-    /// from 1 on, of the writes that fail. It takes all its memory here.
+    /// An empty sink with room for so many bytes, that takes at most `piece` of them a write. `failing`
+    /// has the numbers, from 1 on, of the writes that fail. All the room is reserved here.
     pub fn new(
         alloc: Global,
         room: usize,
@@ -39,7 +46,14 @@ impl MemSink {
         failing: Vec<u32>,
     ) -> Result<MemSink, WantOfMemory>
         requires { 1 ≤ piece }
-        ensures { IfOk result (λ sink. sink ≡ record { written = []; room = room; piece = piece; failing = failing.items; writes = 0; faults = 0 }) }
+        ensures { IfOk result (λ sink. sink ≡ record {
+          written = [];
+          room = room;
+          piece = piece;
+          failing = failing.items;
+          writes = 0;
+          faults = 0;
+        }) }
     {
         Ok(MemSink {
             bytes: Vec::with_capacity(alloc, room)?,
@@ -64,23 +78,28 @@ impl Sink for MemSink {
 
     fn write(&mut self, buf: &[u8]) -> Result<usize, WriteFailed>
         requires { 0 < length buf.now }
-        ensures some { IfOk result (λ n. 0 < n) }
-        ensures bound { IfOk result (λ n. n ≤ length buf.now) }
-        ensures appended { IfOk result (λ n. self.new.written ≡ self.old.written ++ take n buf.now) }
-        ensures nothing_appended { OnErr result (self.new.written ≡ self.old.written) }
-        ensures failed { OnErr result (Rose self.old.faults self.new.faults) }
+
+        // Exactly the writes with these numbers fail, and those with no room.
+        ensures counted { self.new.writes ≡ raised self.old.writes }
+        ensures fails { IsErr result ↔
+            (Contains self.old.failing self.new.writes ⊎ (self.old.room ≡ 0)) }
+        ensures faults { self.new.faults ≡
+            (if is_err result then raised self.old.faults else self.old.faults) }
         ensures faults_kept { self.old.faults ≤ self.new.faults }
         ensures faults_fit { self.new.faults < 2 ^ 64 }
-
-        // Exactly the writes with these numbers fail, and those with no room, and each of the others takes as many bytes as it can.
-        ensures counted { self.new.writes ≡ raised self.old.writes }
-        ensures fails { IsErr result ↔ (Contains self.old.failing self.new.writes ⊎ (self.old.room ≡ 0)) }
-        ensures piece { IfOk result (λ n. n ≡ min (min self.old.piece (length buf.now)) self.old.room) }
-        ensures room { IfOk result (λ n. self.old.room ≡ self.new.room + n) }
+        ensures nothing_appended { OnErr result (self.new.written ≡ self.old.written) }
         ensures same_room { OnErr result (self.new.room ≡ self.old.room) }
+
+        // Each of the others takes as many bytes as it can.
+        ensures count { IfOk result (λ n.
+            n ≡ min (min self.old.piece (length buf.now)) self.old.room) }
+        ensures some { IfOk result (λ n. 0 < n) }
+        ensures appended { IfOk result (λ n.
+            self.new.written ≡ self.old.written ++ take n buf.now) }
+        ensures room { IfOk result (λ n. self.old.room ≡ self.new.room + n) }
+
         ensures same_piece { self.new.piece ≡ self.old.piece }
         ensures same_failing { self.new.failing ≡ self.old.failing }
-        ensures one_fault { self.new.faults ≡ (if is_err result then raised self.old.faults else self.old.faults) }
     {
         let fails = self.calls.next_fails();
         if fails || self.room == 0 {

@@ -1,7 +1,6 @@
 // A source in memory.
-ghost use Rattle.std.specs.Prelude.{◌≡◌, ◌↔◌, ◌<◌, ◌≤◌, ◌^◌, [], Some, length, take, min, if◌then◌else◌, is_err, Contains, IfOk, IsOk, IsErr, OnErr};
-ghost use Rattle.std.specs.Io.KnownBytes.{Consumes, Keeps, IsAtEnd};
-ghost use Rattle.desk_io.specs.Faults.{raised, Rose};
+ghost use Rattle.std.specs.Prelude.{◌≡◌, ◌↔◌, ◌<◌, ◌≤◌, ◌^◌, ◌++◌, [], Some, length, take, min, if◌then◌else◌, is_err, Contains, IfOk, IsOk, IsErr, OnErr};
+ghost use Rattle.desk_io.specs.Faults.{raised};
 ghost use Rattle.std.proofs.Common.{◌∙◌};
 ghost use Rattle.desk_io.specs.MemSource.{ReadsOnTo, reads_on_to_itself, reads_on_further};
 
@@ -9,7 +8,7 @@ use crate::failing_calls::FailingCalls;
 use crate::{ReadFailed, Source};
 use std::marker::Model;
 
-/// Gives its bytes in pieces. Reads fail by their number.
+/// Gives its bytes in pieces. Reads fail by their number. A read takes no memory.
 #[derive(Drop)]
 pub struct MemSource {
     bytes: Vec<u8>,
@@ -24,16 +23,29 @@ impl Model for MemSource {
 
     ghost Value = { SourceState };
 
-    ghost view = { λ s. record { left = drop s.at s.bytes.items; piece = s.piece; failing = s.calls.failing.items; reads = s.calls.made; faults = s.calls.faults } };
+    ghost view = { λ s. record {
+      left = drop s.at s.bytes.items;
+      piece = s.piece;
+      failing = s.calls.failing.items;
+      reads = s.calls.made;
+      faults = s.calls.faults;
+    } };
 
     ghost invariant = { λ s. (s.at ≤ length s.bytes.items) × (1 ≤ s.piece) };
 }
 
 impl MemSource {
-    /// A source of these bytes, at most `piece` of them a read. `failing` has the numbers, from 1 on, of the reads that fail.
+    /// A source of these bytes, at most `piece` of them a read. `failing` has the numbers, from 1 on,
+    /// of the reads that fail.
     pub fn new(bytes: Vec<u8>, piece: usize, failing: Vec<u32>) -> MemSource
         requires { 1 ≤ piece }
-        ensures { result ≡ record { left = bytes.items; piece = piece; failing = failing.items; reads = 0; faults = 0 } }
+        ensures { result ≡ record {
+          left = bytes.items;
+          piece = piece;
+          failing = failing.items;
+          reads = 0;
+          faults = 0;
+        } }
     {
         MemSource {
             bytes,
@@ -65,23 +77,22 @@ impl Source for MemSource {
 
     fn read(&mut self, buf: &mut [u8]) -> Result<usize, ReadFailed>
         requires { 0 < length buf.old }
-        ensures bound { IfOk result (λ n. n ≤ length buf.old) }
-        ensures given { IfOk result (λ n. Consumes (Some self.old.left) (Some self.new.left) (take n buf.new)) }
-        ensures end { IfOk result (λ n. n ≡ 0 → self.new.left ≡ []) }
-        ensures nothing_taken { OnErr result (self.new.left ≡ self.old.left) }
-        ensures failed { OnErr result (Rose self.old.faults self.new.faults) }
-        ensures faults_kept { self.old.faults ≤ self.new.faults }
-        ensures faults_fit { self.new.faults < 2 ^ 64 }
-        ensures is_later { ReadsOnTo self.old self.new }
-        ensures promised { self.old.failing ≡ [] → IsOk result }
-        ensures promise_kept { self.old.failing ≡ [] → self.new.failing ≡ [] }
 
-        // Exactly the reads with these numbers fail, and each of the others gives as many bytes as it can.
+        // Exactly the reads with these numbers fail.
         ensures counted { self.new.reads ≡ raised self.old.reads }
         ensures fails { IsErr result ↔ Contains self.old.failing self.new.reads }
-        ensures piece { IfOk result (λ n. n ≡ min (min self.old.piece (length buf.old)) (length self.old.left)) }
-        ensures same_piece { self.new.piece ≡ self.old.piece }
-        ensures one_fault { self.new.faults ≡ (if is_err result then raised self.old.faults else self.old.faults) }
+        ensures faults { self.new.faults ≡
+            (if is_err result then raised self.old.faults else self.old.faults) }
+        ensures faults_fit { self.new.faults < 2 ^ 64 }
+        ensures nothing_taken { OnErr result (self.new.left ≡ self.old.left) }
+
+        // Each of the others gives as many bytes as it can.
+        ensures count { IfOk result (λ n.
+            n ≡ min (min self.old.piece (length buf.old)) (length self.old.left)) }
+        ensures given { IfOk result (λ n. self.old.left ≡ take n buf.new ++ self.new.left) }
+        ensures end { IfOk result (λ n. n ≡ 0 → self.new.left ≡ []) }
+
+        ensures is_later { ReadsOnTo self.old self.new }
     {
         if self.calls.next_fails() {
             self.calls.add_fault();

@@ -6,7 +6,8 @@ ghost use Rattle.desk_io.specs.Sink.{AppendsPrefix};
 
 use crate::{Sink, WriteFailed};
 
-/// Appends all of the bytes, in as many writes as the sink takes. At `Err` it has some of them, from the first on.
+/// Appends all of the bytes, in as many writes as the sink takes. At `Err` it has some of them, from the
+/// first on, and not all.
 pub fn put_all<K: Sink>(sink: &mut K, bytes: &[u8]) -> Result<(), WriteFailed>
     ensures written { OnOk result (Appends (K.written sink.old) (K.written sink.new) bytes.now) }
     ensures cut_short { OnErr result (AppendsPrefix (K.written sink.old) (K.written sink.new) bytes.now) }

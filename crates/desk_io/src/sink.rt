@@ -13,12 +13,14 @@ pub trait Sink {
     /// The bytes that were written, from the first on. `None` claims nothing.
     ghost written: { Self → Option (List ℕ) };
 
-    /// Appends some of the bytes, from the first on, and answers how many: at least one.
+    /// Appends some of the bytes, from the first on, and answers how many: at least one. A write that could
+    /// take none fails.
     fn write(&mut self, buf: &[u8]) -> Result<usize, WriteFailed>
         requires { 0 < length buf.now }
         ensures some { IfOk result (λ n. 0 < n) }
         ensures bound { IfOk result (λ n. n ≤ length buf.now) }
-        ensures appended { IfOk result (λ n. Appends (written self.old) (written self.new) (take n buf.now)) }
+        ensures appended { IfOk result (λ n.
+            Appends (written self.old) (written self.new) (take n buf.now)) }
         ensures nothing_appended { OnErr result (Keeps (written self.old) (written self.new)) }
         ensures failed { OnErr result (Rose (faults self.old) (faults self.new)) }
         ensures faults_kept { faults self.old ≤ faults self.new }

@@ -17,15 +17,16 @@ pub trait Source {
     /// The promise that no read fails from here on.
     ghost never_fails: { Self → Type 0 };
 
-    /// The second value may come of the first by reads.
+    /// Reads may lead from the first value to the second.
     ghost later: { Self → Self → Type 0 };
 
-    /// Puts the next bytes at the front of `buf`, and answers how many they are: 0 only where none are left.
-    /// What the rest of `buf` has then is left open.
+    /// Puts the next bytes at the front of `buf`, and answers how many they are: 0 only where none are
+    /// left. What the rest of `buf` has then is left open.
     fn read(&mut self, buf: &mut [u8]) -> Result<usize, ReadFailed>
         requires { 0 < length buf.old }
         ensures bound { IfOk result (λ n. n ≤ length buf.old) }
-        ensures given { IfOk result (λ n. Consumes (left self.old) (left self.new) (take n buf.new)) }
+        ensures given { IfOk result (λ n.
+            Consumes (left self.old) (left self.new) (take n buf.new)) }
         ensures end { IfOk result (λ n. n ≡ 0 → IsAtEnd (left self.new)) }
         ensures nothing_taken { OnErr result (Keeps (left self.old) (left self.new)) }
         ensures failed { OnErr result (Rose (faults self.old) (faults self.new)) }
@@ -37,12 +38,16 @@ pub trait Source {
 
     ghost later_reflexive: { (source : Self) → later source source };
 
-    ghost later_transitive: { (first second third : Self) → later first second → later second third → later first third };
+    ghost later_transitive: { (first second third : Self) →
+        later first second → later second third → later first third };
 
     /// What was read stays read.
-    ghost later_gives: { (before after : Self) → later before after → GivesUpTo (left before) (left after) };
+    ghost later_gives: { (before after : Self) →
+        later before after → GivesUpTo (left before) (left after) };
 
-    ghost later_faults: { (before after : Self) → later before after → faults before ≤ faults after };
+    ghost later_faults: { (before after : Self) →
+        later before after → faults before ≤ faults after };
 
-    ghost later_promise: { (before after : Self) → later before after → never_fails before → never_fails after };
+    ghost later_promise: { (before after : Self) →
+        later before after → never_fails before → never_fails after };
 }

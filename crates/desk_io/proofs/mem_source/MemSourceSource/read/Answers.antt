@@ -19,5 +19,6 @@ returns-clause-is_later c = record {
   given = _;
   left = returns-clause-given c;
   faults = omega (arith, ap (λ s. s.faults) c.self.view_is, c.next_fails.ensures.faults);
+  piece = ap (λ s. s.piece) c.self.view_is;
   failing = ap (λ v. v.items) c.next_fails.ensures.failing ∙ ap (λ s. s.failing) c.self.view_is;
 }
