@@ -20,9 +20,10 @@ pub not_all_digits : (xs : List ℕ) (i : ℕ) → i < length xs → is_ascii_di
 not_all_digits [] i within h = absurd (omega (arith, within))
 not_all_digits (x ∷ xs) zero within h = ap (λ b. b && all_ascii_digits xs) h
 not_all_digits (x ∷ xs) (suc i) within h =
-    elim (is_ascii_digit x) as (λ b. (b && all_ascii_digits xs) ≡ false)
-    [ true ↦ not_all_digits xs i (omega (arith, within)) h
-    | false ↦ refl ]
+    elim (is_ascii_digit x) as (λ b. (b && all_ascii_digits xs) ≡ false) [
+      | true ↦ not_all_digits xs i (omega (arith, within)) h
+      | false ↦ refl
+    ]
 
 and_false : (b : Bool) → (b && false) ≡ false
 and_false true = refl
@@ -31,7 +32,7 @@ and_false false = refl
 pub number_not_digits : (most : ℕ) (text : List ℕ) → all_ascii_digits text ≡ false → None ≡ number_of most text
 number_not_digits most text h =
     sym (ap (λ b. cond ((leb 1 (length text) && leb (length text) most) && b) (Some (digits_value 10 text)) None) h
-        ∙ ap (λ b. cond b (Some (digits_value 10 text)) None) (and_false (leb 1 (length text) && leb (length text) most)))
+    ∙ ap (λ b. cond b (Some (digits_value 10 text)) None) (and_false (leb 1 (length text) && leb (length text) most)))
 
 digits_by_value : IsNumeralModel (λ ds. all_ascii_digits ds ≡ true) (digits_value 10)
 digits_by_value = numerals_by_value (λ ds. all_ascii_digits ds ≡ true) tells_all_ascii_digits
@@ -51,7 +52,6 @@ digits_more (x ∷ xs) zero within all digit = ap (λ b. b && true) digit
 digits_more (x ∷ xs) (suc i) within all digit =
     let parts = both_parts (is_ascii_digit x) (all_ascii_digits (take i xs)) all in
     ap (λ b. b && all_ascii_digits (take (suc i) xs)) parts.0 ∙ digits_more xs i (omega (arith, within)) parts.1 digit
-
 
 is_digit_value : (c : ℕ) → is_ascii_digit c ≡ true → digit_value c ≡ c - 48
 is_digit_value c h =
@@ -143,11 +143,11 @@ odds_none text h = ap (option_and_then (within 1001 1000000)) h
 in_range : (odds : Option Odds) (n : ℕ) → IfSome odds (λ o. o.thousandths ≡ n) → (IsSome odds ↔ ((1001 ≤ n) × (n ≤ 1000000))) →
     option_map (λ o. o.thousandths) odds ≡ within 1001 1000000 n
 in_range None n is iff = out_of_range (leb 1001 n) (leb n 1000000) (leb-true 1001 n) (leb-true n 1000000) (λ h. absurd (false≢true (iff.1 h)))
-    where
-      out_of_range : (a b : Bool) → (a ≡ true → 1001 ≤ n) → (b ≡ true → n ≤ 1000000) → ((1001 ≤ n) × (n ≤ 1000000) → ⊥) → None ≡ cond (a && b) (Some n) None
-      out_of_range true true h k out = absurd (out (h refl, k refl))
-      out_of_range true false h k out = refl
-      out_of_range false b h k out = refl
+  where
+    out_of_range : (a b : Bool) → (a ≡ true → 1001 ≤ n) → (b ≡ true → n ≤ 1000000) → ((1001 ≤ n) × (n ≤ 1000000) → ⊥) → None ≡ cond (a && b) (Some n) None
+    out_of_range true true h k out = absurd (out (h refl, k refl))
+    out_of_range true false h k out = refl
+    out_of_range false b h k out = refl
 in_range (Some o) n is iff = let r = iff.0 refl in ap Some is ∙ sym (within_both 1001 1000000 n r.0 r.1)
 
 pub odds_some : (text : List ℕ) (odds : Option Odds) (n : ℕ) → Some n ≡ thousandths_of_parts (slice_split is_point text) →

@@ -68,10 +68,10 @@ plain_is : (before : List LineText) (n : ℕ) (line : List ℕ) (quote : LineTex
 unfolding plain_quote
 plain_is before n line quote h =
     option_and_then_some (λ (q : LineText). cond (leb n 16384 && has_room before q.match_name) (Some q) None) (quote_of line) quote h
-        (λ q is chosen_is. record {
-            short = quote_short line q is;
-            few = leb-true n 16384 (both_true (leb n 16384) (has_room before q.match_name) (cond_some (leb n 16384 && has_room before q.match_name) q quote chosen_is).0);
-        })
+    (λ q is chosen_is. record {
+      short = quote_short line q is;
+      few = leb-true n 16384 (both_true (leb n 16384) (has_room before q.match_name) (cond_some (leb n 16384 && has_room before q.match_name) q quote chosen_is).0);
+    })
 
 some_same : (x y : List LineText) → Some x ≡ Some y → x ≡ y
 some_same x y h = cc
@@ -82,21 +82,21 @@ pub header_outcome : (lines : List (List ℕ)) (k : ℕ) (quotes : List LineText
     MatchOption (book_of line) (feed_step s ≡ NotPlain 1) (λ book. feed_step s ≡ Book book) → Outcome lines k quotes line s names
 header_outcome lines (suc k) quotes line s names first count are same answer = absurd (omega (arith, first))
 header_outcome lines zero quotes line s names first count are same answer = by_book (book_of line) refl answer
-    where
-      names_none : matches_of [] ≡ names
-      names_none = ap matches_of (some_same [] quotes (sym (quotes_of_none lines count) ∙ are)) ∙ same
+  where
+    names_none : matches_of [] ≡ names
+    names_none = ap matches_of (some_same [] quotes (sym (quotes_of_none lines count) ∙ are)) ∙ same
 
-      by_book : (o : Option (List ℕ)) → book_of line ≡ o → MatchOption o (feed_step s ≡ NotPlain 1) (λ book. feed_step s ≡ Book book) → Outcome lines zero quotes line s names
-      by_book None h answer = inl (record { is = answer; all = λ e others. line_steps_bad e line others h })
-      by_book (Some book) h answer = inr (record {
-        goes_on = (book_goes_on s book answer).ends;
-        no_fault = (book_goes_on s book answer).fault;
-        short = book_short line book h;
-        few = omega arith;
-        matches = ap (option_map matches_of) (quotes_of_header lines line book count h) ∙ ap Some names_none;
-        tail = λ e others. quote_steps e [] 2 others;
-        first = λ e others. line_steps_good e line others book h ∙ ap (λ t. t ∷ quote_steps e [] 2 others) (sym answer);
-      })
+    by_book : (o : Option (List ℕ)) → book_of line ≡ o → MatchOption o (feed_step s ≡ NotPlain 1) (λ book. feed_step s ≡ Book book) → Outcome lines zero quotes line s names
+    by_book None h answer = inl (record { is = answer; all = λ e others. line_steps_bad e line others h })
+    by_book (Some book) h answer = inr (record {
+      goes_on = (book_goes_on s book answer).ends;
+      no_fault = (book_goes_on s book answer).fault;
+      short = book_short line book h;
+      few = omega arith;
+      matches = ap (option_map matches_of) (quotes_of_header lines line book count h) ∙ ap Some names_none;
+      tail = λ e others. quote_steps e [] 2 others;
+      first = λ e others. line_steps_good e line others book h ∙ ap (λ t. t ∷ quote_steps e [] 2 others) (sym answer);
+    })
 
 -- a further line
 pub quote_outcome : (lines : List (List ℕ)) (k : ℕ) (quotes : List LineText) (line : List ℕ) (s : Step) (names : List (List ℕ)) →
@@ -105,16 +105,16 @@ pub quote_outcome : (lines : List (List ℕ)) (k : ℕ) (quotes : List LineText)
     Outcome lines k quotes line s names
 quote_outcome lines zero quotes line s names further count are answer = absurd (omega (arith, further))
 quote_outcome lines (suc j) quotes line s names further count are answer = by_quote (plain_quote quotes (suc (suc j)) line) refl answer
-    where
-      by_quote : (o : Option LineText) → plain_quote quotes (suc (suc j)) line ≡ o →
-          MatchOption o (feed_step s ≡ NotPlain (suc (suc j))) (λ quote. (feed_step s ≡ Accepts (suc (suc j)) quote) × (matches_of (quotes ++ quote ∷ []) ≡ names)) → Outcome lines (suc j) quotes line s names
-      by_quote None h answer = inl (record { is = answer; all = λ e others. quote_steps_bad e quotes (suc (suc j)) line others h })
-      by_quote (Some quote) h answer = inr (record {
-        goes_on = (accepts_goes_on s (suc (suc j)) quote answer.0).ends;
-        no_fault = (accepts_goes_on s (suc (suc j)) quote answer.0).fault;
-        short = (plain_is quotes (suc (suc j)) line quote h).short;
-        few = (plain_is quotes (suc (suc j)) line quote h).few;
-        matches = ap (option_map matches_of) (quotes_of_more lines line quotes quote j count are h) ∙ ap Some answer.1;
-        tail = λ e others. quote_steps e (quotes ++ quote ∷ []) (suc (suc (suc j))) others;
-        first = λ e others. quote_steps_good e quotes (suc (suc j)) line others quote h ∙ ap (λ t. t ∷ quote_steps e (quotes ++ quote ∷ []) (suc (suc (suc j))) others) (sym answer.0);
-      })
+  where
+    by_quote : (o : Option LineText) → plain_quote quotes (suc (suc j)) line ≡ o →
+        MatchOption o (feed_step s ≡ NotPlain (suc (suc j))) (λ quote. (feed_step s ≡ Accepts (suc (suc j)) quote) × (matches_of (quotes ++ quote ∷ []) ≡ names)) → Outcome lines (suc j) quotes line s names
+    by_quote None h answer = inl (record { is = answer; all = λ e others. quote_steps_bad e quotes (suc (suc j)) line others h })
+    by_quote (Some quote) h answer = inr (record {
+      goes_on = (accepts_goes_on s (suc (suc j)) quote answer.0).ends;
+      no_fault = (accepts_goes_on s (suc (suc j)) quote answer.0).fault;
+      short = (plain_is quotes (suc (suc j)) line quote h).short;
+      few = (plain_is quotes (suc (suc j)) line quote h).few;
+      matches = ap (option_map matches_of) (quotes_of_more lines line quotes quote j count are h) ∙ ap Some answer.1;
+      tail = λ e others. quote_steps e (quotes ++ quote ∷ []) (suc (suc (suc j))) others;
+      first = λ e others. quote_steps_good e quotes (suc (suc j)) line others quote h ∙ ap (λ t. t ∷ quote_steps e (quotes ++ quote ∷ []) (suc (suc (suc j))) others) (sym answer.0);
+    })

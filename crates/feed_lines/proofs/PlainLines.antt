@@ -44,8 +44,8 @@ module _ (line word version book rule : List ℕ) (short : length line ≤ 200) 
 
   pub book_wrong_version : bytes_eq word (codes "feed") ≡ true → bytes_eq version (codes "1") ≡ false → book_of line ≡ None
   book_wrong_version h k = book_four
-    ∙ ap (λ b. book_gives b (bytes_eq version (codes "1")) (is_name_text book) (bytes_eq rule (codes "void")) book) h
-    ∙ ap (λ b. book_gives true b (is_name_text book) (bytes_eq rule (codes "void")) book) k
+      ∙ ap (λ b. book_gives b (bytes_eq version (codes "1")) (is_name_text book) (bytes_eq rule (codes "void")) book) h
+      ∙ ap (λ b. book_gives true b (is_name_text book) (bytes_eq rule (codes "void")) book) k
 
   wrong_rule : (name : Bool) → book_gives true true name false book ≡ None
   wrong_rule true = refl
@@ -53,18 +53,18 @@ module _ (line word version book rule : List ℕ) (short : length line ≤ 200) 
 
   pub book_wrong_rule : bytes_eq word (codes "feed") ≡ true → bytes_eq version (codes "1") ≡ true → bytes_eq rule (codes "void") ≡ false → book_of line ≡ None
   book_wrong_rule h k r = book_four
-    ∙ ap (λ b. book_gives b (bytes_eq version (codes "1")) (is_name_text book) (bytes_eq rule (codes "void")) book) h
-    ∙ ap (λ b. book_gives true b (is_name_text book) (bytes_eq rule (codes "void")) book) k
-    ∙ ap (λ b. book_gives true true (is_name_text book) b book) r
-    ∙ wrong_rule (is_name_text book)
+      ∙ ap (λ b. book_gives b (bytes_eq version (codes "1")) (is_name_text book) (bytes_eq rule (codes "void")) book) h
+      ∙ ap (λ b. book_gives true b (is_name_text book) (bytes_eq rule (codes "void")) book) k
+      ∙ ap (λ b. book_gives true true (is_name_text book) b book) r
+      ∙ wrong_rule (is_name_text book)
 
   pub book_right : bytes_eq word (codes "feed") ≡ true → bytes_eq version (codes "1") ≡ true → bytes_eq rule (codes "void") ≡ true →
       book_of line ≡ cond (is_name_text book) (Some book) None
   book_right h k r = book_four
-    ∙ ap (λ b. book_gives b (bytes_eq version (codes "1")) (is_name_text book) (bytes_eq rule (codes "void")) book) h
-    ∙ ap (λ b. book_gives true b (is_name_text book) (bytes_eq rule (codes "void")) book) k
-    ∙ ap (λ b. book_gives true true (is_name_text book) b book) r
-    ∙ name_last (is_name_text book)
+      ∙ ap (λ b. book_gives b (bytes_eq version (codes "1")) (is_name_text book) (bytes_eq rule (codes "void")) book) h
+      ∙ ap (λ b. book_gives true b (is_name_text book) (bytes_eq rule (codes "void")) book) k
+      ∙ ap (λ b. book_gives true true (is_name_text book) b book) r
+      ∙ name_last (is_name_text book)
     where
       name_last : (name : Bool) → book_gives true true name true book ≡ cond name (Some book) None
       name_last true = refl
@@ -95,8 +95,8 @@ quote_text match_name selection thousandths units = record { match_name = match_
 abbrev quote_gives : Bool → Bool → Bool → Option Selection → Option ℕ → Option ℕ → List ℕ → Option LineText
 quote_gives word name market selection thousandths units match_name =
     cond ((word && name) && market)
-        (selection >>= (λ s. thousandths >>= (λ o. units >>= (λ u. Some (quote_text match_name s o u)))))
-        None
+    (selection >>= (λ s. thousandths >>= (λ o. units >>= (λ u. Some (quote_text match_name s o u)))))
+    None
 
 module _ (line word match_name market side odds limit : List ℕ) (short : length line ≤ 200)
     (are : fields line ≡ word ∷ match_name ∷ market ∷ side ∷ odds ∷ limit ∷ []) where
@@ -117,8 +117,8 @@ module _ (line word match_name market side odds limit : List ℕ) (short : lengt
 
     pub quote_wrong_market : bytes_eq market (codes "1x2") ≡ false → quote_of line ≡ None
     quote_wrong_market h = quote_worded
-      ∙ ap (λ b. quote_gives true (is_name_text match_name) b (side_of side) (odds_of odds) (limit_of limit) match_name) h
-      ∙ wrong_market (is_name_text match_name)
+        ∙ ap (λ b. quote_gives true (is_name_text match_name) b (side_of side) (odds_of odds) (limit_of limit) match_name) h
+        ∙ wrong_market (is_name_text match_name)
 
     module _ (market_is : bytes_eq market (codes "1x2") ≡ true) where
       quote_marketed : quote_of line ≡ quote_gives true (is_name_text match_name) true (side_of side) (odds_of odds) (limit_of limit) match_name
@@ -143,14 +143,14 @@ module _ (line word match_name market side odds limit : List ℕ) (short : lengt
 
           pub quote_no_limit : (thousandths : ℕ) → odds_of odds ≡ Some thousandths → limit_of limit ≡ None → quote_of line ≡ None
           quote_no_limit thousandths odds_are h = quote_sided
-            ∙ ap (λ o. quote_gives true true true (Some selection) o (limit_of limit) match_name) odds_are
-            ∙ ap (λ o. quote_gives true true true (Some selection) (Some thousandths) o match_name) h
+              ∙ ap (λ o. quote_gives true true true (Some selection) o (limit_of limit) match_name) odds_are
+              ∙ ap (λ o. quote_gives true true true (Some selection) (Some thousandths) o match_name) h
 
           pub quote_all : (thousandths units : ℕ) → odds_of odds ≡ Some thousandths → limit_of limit ≡ Some units →
               quote_of line ≡ Some (quote_text match_name selection thousandths units)
           quote_all thousandths units odds_are limit_is = quote_sided
-            ∙ ap (λ o. quote_gives true true true (Some selection) o (limit_of limit) match_name) odds_are
-            ∙ ap (λ o. quote_gives true true true (Some selection) (Some thousandths) o match_name) limit_is
+              ∙ ap (λ o. quote_gives true true true (Some selection) o (limit_of limit) match_name) odds_are
+              ∙ ap (λ o. quote_gives true true true (Some selection) (Some thousandths) o match_name) limit_is
 
 -- what reading a name answers
 pub name_read : (read : Option (List ℕ)) (text : List ℕ) → IfSome read (λ name. name ≡ text) → is_some read ≡ is_name_text text →

@@ -21,10 +21,10 @@ text_same a = (bytes_eq-Decides a a).1 refl
 other_way : (a b : List ℕ) (t : Bool) → bytes_eq a b ≡ t → bytes_eq b a ≡ t
 other_way a b true h = (bytes_eq-Decides b a).1 (sym (same_text a b h))
 other_way a b false h = still (bytes_eq b a) (λ k. false≢true (sym h ∙ (bytes_eq-Decides a b).1 (sym (same_text b a k))))
-    where
-      still : (t : Bool) → (t ≡ true → ⊥) → t ≡ false
-      still true k = absurd (k refl)
-      still false k = refl
+  where
+    still : (t : Bool) → (t ≡ true → ⊥) → t ≡ false
+    still true k = absurd (k refl)
+    still false k = refl
 
 -- the names other than x
 abbrev without : List ℕ → List (List ℕ) → List (List ℕ)
@@ -37,51 +37,51 @@ stands y names = list_any (λ other. bytes_eq other y) names
 stands_without : (x y : List ℕ) → bytes_eq x y ≡ false → (names : List (List ℕ)) → stands y (without x names) ≡ stands y names
 stands_without x y apart [] = refl
 stands_without x y apart (e ∷ names) = one (bytes_eq e x) refl (stands_without x y apart names)
-    where
-      one : (t : Bool) → bytes_eq e x ≡ t → stands y (without x names) ≡ stands y names → stands y (cond (not t) (e ∷ without x names) (without x names)) ≡ (bytes_eq e y || stands y names)
-      one true h rest = rest ∙ ap (λ t. t || stands y names) (sym (ap (λ z. bytes_eq z y) (same_text e x h) ∙ apart))
-      one false h rest = ap (λ t. bytes_eq e y || t) rest
+  where
+    one : (t : Bool) → bytes_eq e x ≡ t → stands y (without x names) ≡ stands y names → stands y (cond (not t) (e ∷ without x names) (without x names)) ≡ (bytes_eq e y || stands y names)
+    one true h rest = rest ∙ ap (λ t. t || stands y names) (sym (ap (λ z. bytes_eq z y) (same_text e x h) ∙ apart))
+    one false h rest = ap (λ t. bytes_eq e y || t) rest
 
 without_push : (x y : List ℕ) (t : Bool) → bytes_eq y x ≡ t → (names : List (List ℕ)) → without x (names ++ y ∷ []) ≡ cond t (without x names) (without x names ++ y ∷ [])
 without_push x y t h [] = last t h
-    where
-      last : (t : Bool) → bytes_eq y x ≡ t → cond (not (bytes_eq y x)) (y ∷ []) [] ≡ cond t [] (y ∷ [])
-      last true h = ap (λ u. cond (not u) (y ∷ []) []) h
-      last false h = ap (λ u. cond (not u) (y ∷ []) []) h
+  where
+    last : (t : Bool) → bytes_eq y x ≡ t → cond (not (bytes_eq y x)) (y ∷ []) [] ≡ cond t [] (y ∷ [])
+    last true h = ap (λ u. cond (not u) (y ∷ []) []) h
+    last false h = ap (λ u. cond (not u) (y ∷ []) []) h
 without_push x y t h (e ∷ names) = one t (not (bytes_eq e x)) (without_push x y t h names)
-    where
-      one : (t keep : Bool) → without x (names ++ y ∷ []) ≡ cond t (without x names) (without x names ++ y ∷ []) →
-          cond keep (e ∷ without x (names ++ y ∷ [])) (without x (names ++ y ∷ [])) ≡ cond t (cond keep (e ∷ without x names) (without x names)) (cond keep (e ∷ without x names) (without x names) ++ y ∷ [])
-      one true true k = ap (λ l. e ∷ l) k
-      one true false k = k
-      one false true k = ap (λ l. e ∷ l) k
-      one false false k = k
+  where
+    one : (t keep : Bool) → without x (names ++ y ∷ []) ≡ cond t (without x names) (without x names ++ y ∷ []) →
+        cond keep (e ∷ without x (names ++ y ∷ [])) (without x (names ++ y ∷ [])) ≡ cond t (cond keep (e ∷ without x names) (without x names)) (cond keep (e ∷ without x names) (without x names) ++ y ∷ [])
+    one true true k = ap (λ l. e ∷ l) k
+    one true false k = k
+    one false true k = ap (λ l. e ∷ l) k
+    one false false k = k
 
 -- one more name
 pub once_more : (xs : List (List ℕ)) (y : List ℕ) → each_once (xs ++ y ∷ []) ≡ cond (stands y (each_once xs)) (each_once xs) (each_once xs ++ y ∷ [])
 once_more [] y = refl
 once_more (x ∷ xs) y =
     ap (λ names. x ∷ without x names) (once_more xs y) ∙ cases (bytes_eq x y) refl (stands y (each_once xs)) refl
-    where
-      cases : (t : Bool) → bytes_eq x y ≡ t → (m : Bool) → stands y (each_once xs) ≡ m →
-          (x ∷ without x (cond m (each_once xs) (each_once xs ++ y ∷ [])))
-          ≡ cond (t || stands y (without x (each_once xs))) (x ∷ without x (each_once xs)) ((x ∷ without x (each_once xs)) ++ y ∷ [])
-      cases true h true k = refl
-      cases true h false k = ap (λ l. x ∷ l) (without_push x y true (other_way x y true h) (each_once xs))
-      cases false h true k = ap (λ u. cond u (x ∷ without x (each_once xs)) ((x ∷ without x (each_once xs)) ++ y ∷ [])) (sym (stands_without x y h (each_once xs) ∙ k))
-      cases false h false k =
-          ap (λ l. x ∷ l) (without_push x y false (other_way x y false h) (each_once xs))
-          ∙ ap (λ u. cond u (x ∷ without x (each_once xs)) ((x ∷ without x (each_once xs)) ++ y ∷ [])) (sym (stands_without x y h (each_once xs) ∙ k))
+  where
+    cases : (t : Bool) → bytes_eq x y ≡ t → (m : Bool) → stands y (each_once xs) ≡ m →
+        (x ∷ without x (cond m (each_once xs) (each_once xs ++ y ∷ [])))
+        ≡ cond (t || stands y (without x (each_once xs))) (x ∷ without x (each_once xs)) ((x ∷ without x (each_once xs)) ++ y ∷ [])
+    cases true h true k = refl
+    cases true h false k = ap (λ l. x ∷ l) (without_push x y true (other_way x y true h) (each_once xs))
+    cases false h true k = ap (λ u. cond u (x ∷ without x (each_once xs)) ((x ∷ without x (each_once xs)) ++ y ∷ [])) (sym (stands_without x y h (each_once xs) ∙ k))
+    cases false h false k =
+        ap (λ l. x ∷ l) (without_push x y false (other_way x y false h) (each_once xs))
+        ∙ ap (λ u. cond u (x ∷ without x (each_once xs)) ((x ∷ without x (each_once xs)) ++ y ∷ [])) (sym (stands_without x y h (each_once xs) ∙ k))
 
 quotes_push : (before : List LineText) (quote : LineText) → is_quote quote ≡ true →
     map (λ line. line.match_name) (filter is_quote (before ++ quote ∷ [])) ≡ map (λ line. line.match_name) (filter is_quote before) ++ quote.match_name ∷ []
 quotes_push [] quote h = ap (λ t. map (λ (line : LineText). line.match_name) (cond t (quote ∷ []) [])) h
 quotes_push (line ∷ before) quote h = one (is_quote line) (quotes_push before quote h)
-    where
-      one : (t : Bool) → map (λ (l : LineText). l.match_name) (filter is_quote (before ++ quote ∷ [])) ≡ map (λ (l : LineText). l.match_name) (filter is_quote before) ++ quote.match_name ∷ [] → map (λ (l : LineText). l.match_name) (cond t (line ∷ filter is_quote (before ++ quote ∷ [])) (filter is_quote (before ++ quote ∷ [])))
-          ≡ map (λ (l : LineText). l.match_name) (cond t (line ∷ filter is_quote before) (filter is_quote before)) ++ quote.match_name ∷ []
-      one true rest = ap (λ l. line.match_name ∷ l) rest
-      one false rest = rest
+  where
+    one : (t : Bool) → map (λ (l : LineText). l.match_name) (filter is_quote (before ++ quote ∷ [])) ≡ map (λ (l : LineText). l.match_name) (filter is_quote before) ++ quote.match_name ∷ [] → map (λ (l : LineText). l.match_name) (cond t (line ∷ filter is_quote (before ++ quote ∷ [])) (filter is_quote (before ++ quote ∷ [])))
+        ≡ map (λ (l : LineText). l.match_name) (cond t (line ∷ filter is_quote before) (filter is_quote before)) ++ quote.match_name ∷ []
+    one true rest = ap (λ l. line.match_name ∷ l) rest
+    one false rest = rest
 
 pub matches_more : (before : List LineText) (quote : LineText) → is_quote quote ≡ true →
     matches_of (before ++ quote ∷ []) ≡ cond (stands quote.match_name (matches_of before)) (matches_of before) (matches_of before ++ quote.match_name ∷ [])
@@ -136,7 +136,7 @@ matches_after before quote old new is same free new_is =
 -- a quote of the code is one of the text
 pub quotes : (line : Accepted) → IsQuoteInRange line.change → is_quote (line_text line) ≡ true
 quotes line h = of_change line.change h
-    where
-      of_change : (c : Change) → IsQuoteInRange c → is_quote_change (change_text c) ≡ true
-      of_change (change.Quote odds limit) h = refl
-      of_change change.Withdraw h = absurd h
+  where
+    of_change : (c : Change) → IsQuoteInRange c → is_quote_change (change_text c) ≡ true
+    of_change (change.Quote odds limit) h = refl
+    of_change change.Withdraw h = absurd h

@@ -23,9 +23,9 @@ pub record Kept (lines : List (List ℕ)) (names : List (List ℕ)) : Type 0 whe
 kept_by : (o : Option (List LineText)) (lines : List (List ℕ)) (names : List (List ℕ)) → quotes_of lines ≡ o → option_map matches_of o ≡ Some names → Kept lines names
 kept_by None lines names h same = absurd (cc)
 kept_by (Some quotes) lines names h same = record { quotes = quotes; are = h; same = some_same same }
-    where
-      some_same : {x y : List (List ℕ)} → Some x ≡ Some y → x ≡ y
-      some_same e = cc
+  where
+    some_same : {x y : List (List ℕ)} → Some x ≡ Some y → x ≡ y
+    some_same e = cc
 
 module _ (bytes : List ℕ) (start k : ℕ) (names : List (List ℕ)) (r : IsReading bytes start k names) where
   pub kept : Kept (ended_lines (take start bytes)) names
@@ -115,9 +115,9 @@ module _ (bytes : List ℕ) (start k : ℕ) (names : List (List ℕ)) (r : IsRea
       few_bytes = omega (arith, r.few_bytes, a.short, line_length, e.after);
       few_names = few;
     }
-        where
-          lines_more : ended_lines (take (end + 1) bytes) ≡ ended_lines (take start bytes) ++ take (end - start) (drop start bytes) ∷ []
-          lines_more = ap ended_lines front_more ∙ ended_after (take start bytes) (take (end - start) (drop start bytes)) [] r.whole e.line
+      where
+        lines_more : ended_lines (take (end + 1) bytes) ≡ ended_lines (take start bytes) ++ take (end - start) (drop start bytes) ∷ []
+        lines_more = ap ended_lines front_more ∙ ended_after (take start bytes) (take (end - start) (drop start bytes)) [] r.whole e.line
 
 -- what the step of an ended line brings
 pub record LineDone (bytes : List ℕ) (end k number : ℕ) (s : Step) (new : List (List ℕ)) : Type 0 where
@@ -129,15 +129,15 @@ pub line_done : (bytes : List ℕ) (start k end : ℕ) (names new : List (List �
     Outcome (ended_lines (take start bytes)) k (kept bytes start k names r).quotes (take (end - start) (drop start bytes)) s new → LineDone bytes end k (suc k) s new
 line_done bytes start k end names new s r e (inl refuses) = record {
   item = item_of bytes k s (walk bytes start k names r).answered [] (answered_count bytes start k names r)
-    (refused_here bytes start k names r end e (is_read_fault s) s refuses ∙ ap (λ t. (walk bytes start k names r).answered ++ t ∷ []) (sym refuses.is))
-    (λ ends. refl);
+      (refused_here bytes start k names r end e (is_read_fault s) s refuses ∙ ap (λ t. (walk bytes start k names r).answered ++ t ∷ []) (sym refuses.is))
+      (λ ends. refl);
   reading = λ goes_on few. absurd (false≢true (sym goes_on ∙ refusal_ends s (suc k) refuses.is));
   whole = λ ends more. refused_steps bytes start k names r end e false more s refuses ∙ sym (refused_here bytes start k names r end e false s refuses);
 }
 line_done bytes start k end names new s r e (inr a) = record {
   item = item_of bytes k s (walk bytes start k names r).answered (a.tail (ending (is_read_fault s) (unended bytes)) (ended_lines (drop (end + 1) bytes ++ []))) (answered_count bytes start k names r)
-    (accepted_here bytes start k names r end e (is_read_fault s) s new a)
-    (λ ends. absurd (false≢true (sym a.goes_on ∙ ends)));
+      (accepted_here bytes start k names r end e (is_read_fault s) s new a)
+      (λ ends. absurd (false≢true (sym a.goes_on ∙ ends)));
   reading = λ goes_on few. reading_more bytes start k names r end e s new a few;
   whole = λ ends. absurd (false≢true (sym a.goes_on ∙ ends));
 }
@@ -148,7 +148,7 @@ header_done bytes start k end number names line s r e number_is first line_is an
     let kept_here = kept bytes start k names r in
     let outcome = header_outcome (ended_lines (take start bytes)) k kept_here.quotes line s names (omega (arith, number_is, first)) r.count kept_here.are kept_here.same answer in
     subst (λ n. LineDone bytes end k n s names) (sym number_is)
-        (line_done bytes start k end names names s r e (subst (λ l. Outcome (ended_lines (take start bytes)) k kept_here.quotes l s names) line_is outcome))
+    (line_done bytes start k end names names s r e (subst (λ l. Outcome (ended_lines (take start bytes)) k kept_here.quotes l s names) line_is outcome))
 
 pub quote_done : (bytes : List ℕ) (start k end number : ℕ) (names new : List (List ℕ)) (line : List ℕ) (s : Step) → IsReading bytes start k names → IsEndedAt bytes start end → number ≡ suc k → 1 ≤ k →
     line ≡ take (end - start) (drop start bytes) →
@@ -157,21 +157,21 @@ pub quote_done : (bytes : List ℕ) (start k end number : ℕ) (names new : List
 quote_done bytes start k end number names new line s r e number_is further line_is answer =
     let kept_here = kept bytes start k names r in
     let at = subst (λ n. MatchOption (plain_quote kept_here.quotes n line) (feed_step s ≡ NotPlain n) (λ quote. (feed_step s ≡ Accepts n quote) × (matches_of (kept_here.quotes ++ quote ∷ []) ≡ new)))
-        number_is (answer kept_here.quotes kept_here.same) in
+    number_is (answer kept_here.quotes kept_here.same) in
     let outcome = quote_outcome (ended_lines (take start bytes)) k kept_here.quotes line s new further r.count kept_here.are at in
     subst (λ n. LineDone bytes end k n s new) (sym number_is)
-        (line_done bytes start k end names new s r e (subst (λ l. Outcome (ended_lines (take start bytes)) k kept_here.quotes l s new) line_is outcome))
+    (line_done bytes start k end names new s r e (subst (λ l. Outcome (ended_lines (take start bytes)) k kept_here.quotes l s new) line_is outcome))
 
 -- the endings
 pub ends_well : (rest : List ℕ) (n : ℕ) → length rest ≡ 0 → 1 < n → ending false rest n ≡ Ended
 ends_well rest n none further = well (length rest) n none further
-    where
-      well : (m n : ℕ) → m ≡ 0 → 1 < n → cond (eqb m 0 && ltb 1 n) Ended (NotPlain n) ≡ Ended
-      well m n h k = ap (λ t. cond (t && ltb 1 n) Ended (NotPlain n)) (eq-eqb m 0 h) ∙ ap (λ t. cond t Ended (NotPlain n)) (lt-ltb 1 n k)
+  where
+    well : (m n : ℕ) → m ≡ 0 → 1 < n → cond (eqb m 0 && ltb 1 n) Ended (NotPlain n) ≡ Ended
+    well m n h k = ap (λ t. cond (t && ltb 1 n) Ended (NotPlain n)) (eq-eqb m 0 h) ∙ ap (λ t. cond t Ended (NotPlain n)) (lt-ltb 1 n k)
 
 pub ends_empty : (rest : List ℕ) (n : ℕ) → n ≤ 1 → ending false rest n ≡ NotPlain n
 ends_empty rest n first = empty (eqb (length rest) 0) (ltb 1 n) (le-ltb 1 n first)
-    where
-      empty : (a b : Bool) → b ≡ false → cond (a && b) Ended (NotPlain n) ≡ NotPlain n
-      empty true b h = ap (λ t. cond t Ended (NotPlain n)) h
-      empty false b h = refl
+  where
+    empty : (a b : Bool) → b ≡ false → cond (a && b) Ended (NotPlain n) ≡ NotPlain n
+    empty true b h = ap (λ t. cond t Ended (NotPlain n)) h
+    empty false b h = refl

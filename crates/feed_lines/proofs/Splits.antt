@@ -13,9 +13,10 @@ use Rattle.feed_lines.specs.Taking.{IsOneLine, IsEndedAt}
 
 -- where `position` finds nothing no element passes
 no_first : (p : ℕ → Bool) (xs : List ℕ) → position p xs ≡ None → ltb (position_or_len p xs) (length xs) ≡ false
-no_first p xs h = elim (ltb (position_or_len p xs) (length xs)) as (λ b. cond b (Some (position_or_len p xs)) None ≡ None → b ≡ false)
-    [ true ↦ λ e. absurd (cc)
-    | false ↦ λ e. refl ] h
+no_first p xs h = elim (ltb (position_or_len p xs) (length xs)) as (λ b. cond b (Some (position_or_len p xs)) None ≡ None → b ≡ false) [
+  | true ↦ λ e. absurd (cc)
+  | false ↦ λ e. refl
+] h
 
 pub split_none : (p : ℕ → Bool) (xs : List ℕ) → position p xs ≡ None → slice_split p xs ≡ xs ∷ []
 split_none p xs h =
@@ -57,23 +58,23 @@ module _ (bytes : List ℕ) (start at : ℕ) (within : start ≤ length bytes) (
 
   one : IsOneLine (take (start + at - start) (drop start bytes))
   one = ap (λ k. pieces (take k (drop start bytes))) less
-    ∙ slice_split_none is_line_feed (take at (drop start bytes))
-        (λ k d inside. ap is_line_feed (get_or-take at (drop start bytes) k d (omega (arith, inside, length-take at (drop start bytes))))
-            ∙ fails_before_first is_line_feed (drop start bytes) k d (omega (arith, inside, length-take at (drop start bytes), f.is)))
-    ∙ ap (λ k. take k (drop start bytes) ∷ []) (sym less)
+      ∙ slice_split_none is_line_feed (take at (drop start bytes))
+      (λ k d inside. ap is_line_feed (get_or-take at (drop start bytes) k d (omega (arith, inside, length-take at (drop start bytes))))
+      ∙ fails_before_first is_line_feed (drop start bytes) k d (omega (arith, inside, length-take at (drop start bytes), f.is)))
+      ∙ ap (λ k. take k (drop start bytes) ∷ []) (sym less)
 
   is_feed : get_or (drop start bytes) at 0 ≡ 10
   is_feed = ap (λ k. get_or (drop start bytes) k 0) (sym f.is)
-    ∙ eqb-true (get_or (drop start bytes) (position_or_len is_line_feed (drop start bytes)) 0) 10
-        (passes_at_first is_line_feed (drop start bytes) 0 (omega (arith, f.within, f.is)))
+      ∙ eqb-true (get_or (drop start bytes) (position_or_len is_line_feed (drop start bytes)) 0) 10
+      (passes_at_first is_line_feed (drop start bytes) 0 (omega (arith, f.within, f.is)))
 
   parts : drop start bytes ≡ take (start + at - start) (drop start bytes) ++ 10 ∷ drop (start + at + 1) bytes
   parts = split_at_first is_line_feed (drop start bytes) 0 (omega (arith, f.within, f.is))
-    ∙ ap (λ k. take k (drop start bytes) ++ (get_or (drop start bytes) k 0 ∷ drop (k + 1) (drop start bytes))) f.is
-    ∙ ap (λ b. take at (drop start bytes) ++ (b ∷ drop (at + 1) (drop start bytes))) is_feed
-    ∙ ap (λ r. take at (drop start bytes) ++ (10 ∷ r)) (drop-drop (at + 1) start bytes)
-    ∙ ap (λ k. take at (drop start bytes) ++ (10 ∷ drop k bytes)) (let e : start + (at + 1) ≡ start + at + 1 = omega arith in e)
-    ∙ ap (λ k. take k (drop start bytes) ++ 10 ∷ drop (start + at + 1) bytes) (sym less)
+      ∙ ap (λ k. take k (drop start bytes) ++ (get_or (drop start bytes) k 0 ∷ drop (k + 1) (drop start bytes))) f.is
+      ∙ ap (λ b. take at (drop start bytes) ++ (b ∷ drop (at + 1) (drop start bytes))) is_feed
+      ∙ ap (λ r. take at (drop start bytes) ++ (10 ∷ r)) (drop-drop (at + 1) start bytes)
+      ∙ ap (λ k. take at (drop start bytes) ++ (10 ∷ drop k bytes)) (let e : start + (at + 1) ≡ start + at + 1 = omega arith in e)
+      ∙ ap (λ k. take k (drop start bytes) ++ 10 ∷ drop (start + at + 1) bytes) (sym less)
 
   pub ended_at : IsEndedAt bytes start (start + at)
   ended_at = record { after = omega arith; within = at_within; line = one; parts = parts }
@@ -104,9 +105,9 @@ module _ (bytes : List ℕ) (start from : ℕ) (within : start ≤ from) where
 
   pub joins_take : (end : ℕ) → from ≤ end → take (from - start) (drop start bytes) ++ take (end - from) (drop from bytes) ≡ take (end - start) (drop start bytes)
   joins_take end h =
-    ap (λ r. take (from - start) (drop start bytes) ++ take (end - from) r) (sym from_is)
-    ∙ sym (take-add (from - start) (end - from) (drop start bytes))
-    ∙ ap (λ k. take k (drop start bytes)) (let e : from - start + (end - from) ≡ end - start = omega (arith, within, h) in e)
+      ap (λ r. take (from - start) (drop start bytes) ++ take (end - from) r) (sym from_is)
+      ∙ sym (take-add (from - start) (end - from) (drop start bytes))
+      ∙ ap (λ k. take k (drop start bytes)) (let e : from - start + (end - from) ≡ end - start = omega (arith, within, h) in e)
 
   pub one_line_on : IsOneLineUpTo bytes start from → IsOneLine (drop from bytes) → IsOneLine (drop start bytes)
   one_line_on first second = subst IsOneLine joins (one_line_joined (take (from - start) (drop start bytes)) (drop from bytes) first second)
@@ -117,7 +118,7 @@ module _ (bytes : List ℕ) (start from : ℕ) (within : start ≤ from) where
     within = e.within;
     line = subst IsOneLine (joins_take end e.after) (one_line_joined (take (from - start) (drop start bytes)) (take (end - from) (drop from bytes)) first e.line);
     parts = sym joins
-      ∙ ap (λ r. take (from - start) (drop start bytes) ++ r) e.parts
-      ∙ sym (append_assoc (take (from - start) (drop start bytes)) (take (end - from) (drop from bytes)) (10 ∷ drop (end + 1) bytes))
-      ∙ ap (λ l. l ++ 10 ∷ drop (end + 1) bytes) (joins_take end e.after);
+        ∙ ap (λ r. take (from - start) (drop start bytes) ++ r) e.parts
+        ∙ sym (append_assoc (take (from - start) (drop start bytes)) (take (end - from) (drop from bytes)) (10 ∷ drop (end + 1) bytes))
+        ∙ ap (λ l. l ++ 10 ∷ drop (end + 1) bytes) (joins_take end e.after);
   }

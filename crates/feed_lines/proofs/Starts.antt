@@ -10,5 +10,5 @@ pub starts : (bytes : List ℕ) (start : ℕ) (names : List (List ℕ)) → byte
 starts bytes start names no_bytes at_front no_names =
     let reader : IsReader [] 0 0 [] false false = record { reading = λ _. reading_nothing; not_drained = λ _. refl; few_taken = omega arith } in
     subst (λ b. IsReader b start 0 names false false) (sym no_bytes)
-        (subst (λ s. IsReader [] s 0 names false false) (sym at_front)
-            (subst (λ n. IsReader [] 0 0 n false false) (sym no_names) reader))
+    (subst (λ s. IsReader [] s 0 names false false) (sym at_front)
+    (subst (λ n. IsReader [] 0 0 n false false) (sym no_names) reader))

@@ -29,15 +29,15 @@ nothing_more a b old new t same =
 pub looked_through : (a b : Option (List ℕ)) (old new : List ℕ) (start from start_now : ℕ) → Takes a b old new → start ≤ length old → from ≡ length old → start_now ≡ start →
     IsOneLine (drop start old) → IsOneLineUpTo new start_now from
 looked_through a b old new start from start_now t within at same one = subst IsOneLine (sym is) one
-    where
-      is : take (from - start_now) (drop start_now new) ≡ drop start old
-      is =
-          ap (λ s. take (from - s) (drop s new)) same
-          ∙ ap (λ f. take (f - start) (drop start new)) at
-          ∙ ap (λ l. take (length old - start) (drop start l)) t.appended
-          ∙ ap (λ l. take (length old - start) l) (drop-append-le start old t.more within)
-          ∙ ap (λ n. take n (drop start old ++ t.more)) (sym (length-drop start old))
-          ∙ take-append_seam (drop start old) t.more
+  where
+    is : take (from - start_now) (drop start_now new) ≡ drop start old
+    is =
+        ap (λ s. take (from - s) (drop s new)) same
+        ∙ ap (λ f. take (f - start) (drop start new)) at
+        ∙ ap (λ l. take (length old - start) (drop start l)) t.appended
+        ∙ ap (λ l. take (length old - start) l) (drop-append-le start old t.more within)
+        ∙ ap (λ n. take n (drop start old ++ t.more)) (sym (length-drop start old))
+        ∙ take-append_seam (drop start old) t.more
 
 -- where no line feed stands, not more than one line does
 pub no_second : (old now : List ℕ) (start start_now : ℕ) → now ≡ old → start_now ≡ start → IsOneLine (drop start_now now) → 1 < length (pieces (drop start old)) → ⊥

@@ -41,7 +41,7 @@ unfolding quotes_from
 walk_from before n [] quotes h = walk_none before n quotes (some_same before quotes h)
 walk_from before n (line ∷ lines) quotes h =
     option_and_then_some (λ quote. quotes_from (before ++ quote ∷ []) (suc n) lines) (plain_quote before n line) quotes h
-        (λ quote is rest. walk_more before n line lines quotes quote is (walk_from (before ++ quote ∷ []) (suc n) lines quotes rest))
+    (λ quote is rest. walk_more before n line lines quotes quote is (walk_from (before ++ quote ∷ []) (suc n) lines quotes rest))
 
 -- the steps of the lines that follow `number` plain ones
 abbrev pub from : (ℕ → FeedStep) → List LineText → ℕ → List (List ℕ) → List FeedStep
@@ -64,9 +64,9 @@ walked_header header lines quotes book h w = record {
   answered = Book book ∷ w.answered;
   count = ap suc w.count;
   steps = λ e more.
-    line_steps_good e header (lines ++ more) book h
-    ∙ ap (λ l. Book book ∷ l) (w.steps e more)
-    ∙ ap (λ n. Book book ∷ (w.answered ++ quote_steps e quotes n more)) (past_is 2 lines ∙ omega arith);
+      line_steps_good e header (lines ++ more) book h
+      ∙ ap (λ l. Book book ∷ l) (w.steps e more)
+      ∙ ap (λ n. Book book ∷ (w.answered ++ quote_steps e quotes n more)) (past_is 2 lines ∙ omega arith);
 }
 
 pub walked : (lines : List (List ℕ)) (quotes : List LineText) → quotes_of lines ≡ Some quotes → Walked lines quotes
@@ -74,7 +74,7 @@ unfolding quotes_of
 walked [] quotes h = record { answered = []; count = refl; steps = λ e more. refl }
 walked (header ∷ lines) quotes h =
     option_and_then_some (λ book. quotes_from [] 2 lines) (book_of header) quotes h
-        (λ book is rest. walked_header header lines quotes book is (walk_from [] 2 lines quotes rest))
+    (λ book is rest. walked_header header lines quotes book is (walk_from [] 2 lines quotes rest))
 
 -- one more quote
 quotes_from_more : (before : List LineText) (n : ℕ) (lines : List (List ℕ)) (line : List ℕ) (quotes : List LineText) (quote : LineText) →
@@ -86,8 +86,8 @@ quotes_from_more before n [] line quotes quote h is =
     ∙ ap (λ b. Some (b ++ quote ∷ [])) (some_same before quotes h)
 quotes_from_more before n (first ∷ lines) line quotes quote h is =
     option_and_then_some (λ quote. quotes_from (before ++ quote ∷ []) (suc n) lines) (plain_quote before n first) quotes h
-        (λ one one_is rest. ap (option_and_then (λ quote. quotes_from (before ++ quote ∷ []) (suc n) (lines ++ line ∷ []))) one_is
-            ∙ quotes_from_more (before ++ one ∷ []) (suc n) lines line quotes quote rest is)
+    (λ one one_is rest. ap (option_and_then (λ quote. quotes_from (before ++ quote ∷ []) (suc n) (lines ++ line ∷ []))) one_is
+    ∙ quotes_from_more (before ++ one ∷ []) (suc n) lines line quotes quote rest is)
 
 pub quotes_of_more : (lines : List (List ℕ)) (line : List ℕ) (quotes : List LineText) (quote : LineText) (k : ℕ) →
     length lines ≡ suc k → quotes_of lines ≡ Some quotes → plain_quote quotes (suc (suc k)) line ≡ Some quote →
@@ -96,8 +96,8 @@ unfolding quotes_of
 quotes_of_more [] line quotes quote k count h is = absurd (omega (arith, count))
 quotes_of_more (header ∷ lines) line quotes quote k count h is =
     option_and_then_some (λ book. quotes_from [] 2 lines) (book_of header) quotes h
-        (λ book book_is rest. ap (option_and_then (λ book. quotes_from [] 2 (lines ++ line ∷ []))) book_is
-            ∙ quotes_from_more [] 2 lines line quotes quote rest (ap (λ n. plain_quote quotes n line) (past_is 2 lines ∙ omega (arith, count)) ∙ is))
+    (λ book book_is rest. ap (option_and_then (λ book. quotes_from [] 2 (lines ++ line ∷ []))) book_is
+    ∙ quotes_from_more [] 2 lines line quotes quote rest (ap (λ n. plain_quote quotes n line) (past_is 2 lines ∙ omega (arith, count)) ∙ is))
 
 pub quotes_of_header : (lines : List (List ℕ)) (header book : List ℕ) → length lines ≡ 0 → book_of header ≡ Some book → quotes_of (lines ++ header ∷ []) ≡ Some []
 unfolding quotes_of quotes_from
@@ -119,8 +119,8 @@ pub item_of : (bytes : List ℕ) (k : ℕ) (step : Step) (answered tail : List F
 item_of bytes k step answered tail count are ends = record {
   item = ap (λ l. slice_get l k) are ∙ ap (slice_get (answered ++ feed_step step ∷ tail)) (sym count) ∙ get_after answered (feed_step step) tail;
   last = λ end. are
-    ∙ ap (λ t. answered ++ feed_step step ∷ t) (ends end)
-    ∙ ap (λ l. l ++ feed_step step ∷ []) (sym (ap (take k) are ∙ ap (λ n. take n (answered ++ feed_step step ∷ tail)) (sym count) ∙ take-append_seam answered (feed_step step ∷ tail)));
+      ∙ ap (λ t. answered ++ feed_step step ∷ t) (ends end)
+      ∙ ap (λ l. l ++ feed_step step ∷ []) (sym (ap (take k) are ∙ ap (λ n. take n (answered ++ feed_step step ∷ tail)) (sym count) ∙ take-append_seam answered (feed_step step ∷ tail)));
 }
 
 -- a line that is refused: its step, and the steps from it on whatever follows

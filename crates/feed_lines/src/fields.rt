@@ -16,7 +16,7 @@ pub fn cut(text: &[u8], separator: u8) -> Option<(&[u8], &[u8])>
     ensures { MatchOption result
         (slice_split (λ byte. byte == separator) text.now ≡ text.now ∷ [])
         (λ parts. slice_split (λ byte. byte == separator) text.now
-            ≡ parts.0.now ∷ slice_split (λ byte. byte == separator) parts.1.now) }
+        ≡ parts.0.now ∷ slice_split (λ byte. byte == separator) parts.1.now) }
 {
     match find(text, separator) {
         None => None,
@@ -54,7 +54,7 @@ pub fn six_fields(line: &[u8]) -> Option<(&[u8], &[u8], &[u8], &[u8], &[u8], &[u
     ensures { MatchOption result
         (length (fields line.now) ≢ 6)
         (λ parts. fields line.now
-            ≡ parts.0.now ∷ parts.1.now ∷ parts.2.now ∷ parts.3.now ∷ parts.4.now ∷ parts.5.now ∷ []) }
+        ≡ parts.0.now ∷ parts.1.now ∷ parts.2.now ∷ parts.3.now ∷ parts.4.now ∷ parts.5.now ∷ []) }
 {
     let (first, rest) = cut(line, b' ')?;
     let (second, rest) = cut(rest, b' ')?;

@@ -12,8 +12,8 @@
 #![tactic(auto)]
 
 mod fields;
-pub mod limits;
 mod limit_text;
+pub mod limits;
 mod match_names;
 mod number_text;
 mod odds_text;

@@ -38,8 +38,8 @@ fn quote_step(line: &[u8], number: u32, matches: &mut MatchNames) -> Step
     requires few { length matches.old.names.items ≤ 256 }
     ensures step { (before : List LineText) → matches_of before ≡ matches.old.names.items →
         MatchOption (plain_quote before number line.now)
-            (feed_step result ≡ NotPlain number)
-            (λ quote. (feed_step result ≡ Accepts number quote) × (matches_of (before ++ quote ∷ []) ≡ matches.new.names.items)) }
+        (feed_step result ≡ NotPlain number)
+        (λ quote. (feed_step result ≡ Accepts number quote) × (matches_of (before ++ quote ∷ []) ≡ matches.new.names.items)) }
     ensures few { length matches.new.names.items ≤ 256 }
     ensures form { IsPlainStep result }
 {

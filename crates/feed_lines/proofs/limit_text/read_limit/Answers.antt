@@ -10,6 +10,7 @@ pub returns-then-limit-le-MOST_LIMIT-clause-value : goal.returns-then-limit-le-M
 returns-then-limit-le-MOST_LIMIT-clause-value c = limit_some c.args.text.now c.in_ok-limit.limit c.in_ok-limit.ensures.value c.if-limit-ge1.true c.if-limit-le-MOST_LIMIT.true
 
 pub returns-else-limit-ge1-clause-value : goal.returns-else-limit-ge1-clause-value
-returns-else-limit-ge1-clause-value c = elim c.else-limit-ge1.branch
-    [ else-limit-ge1-via-then-limit-ge1+else-limit-le-MOST_LIMIT w ↦ limit_high c.args.text.now c.in_ok-limit.limit c.in_ok-limit.ensures.value w.if-limit-le-MOST_LIMIT.false
-    | else-limit-ge1-via-else-limit-ge1 w ↦ limit_low c.args.text.now c.in_ok-limit.limit c.in_ok-limit.ensures.value w.if-limit-ge1.false ]
+returns-else-limit-ge1-clause-value c = elim c.else-limit-ge1.branch [
+  | else-limit-ge1-via-then-limit-ge1+else-limit-le-MOST_LIMIT w ↦ limit_high c.args.text.now c.in_ok-limit.limit c.in_ok-limit.ensures.value w.if-limit-le-MOST_LIMIT.false
+  | else-limit-ge1-via-else-limit-ge1 w ↦ limit_low c.args.text.now c.in_ok-limit.limit c.in_ok-limit.ensures.value w.if-limit-ge1.false
+]

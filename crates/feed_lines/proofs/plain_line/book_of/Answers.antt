@@ -15,15 +15,16 @@ returns-then-is_word-3 c =
     let f = c.in_ok-word in
     name_read c.read.result f.book.now c.read.ensures.value c.read.ensures.test
     ∙ sym (book_right c.args.line.now f.word.now f.version.now f.book.now f.rule.now c.if-line-gt-MOST_LINE_BYTES.false f.ensures
-        (sym c.if-is_word.ensures) (sym c.if-is_word-2.ensures) (sym c.if-is_word-3.ensures))
+    (sym c.if-is_word.ensures) (sym c.if-is_word-2.ensures) (sym c.if-is_word-3.ensures))
 
 pub returns-else-is_word : goal.returns-else-is_word
 returns-else-is_word c =
     let f = c.in_ok-word in
-    elim c.else-is_word.branch
-    [ else-is_word-via-then-is_word+then-is_word-2+else-is_word-3 w ↦ sym (book_wrong_rule c.args.line.now f.word.now f.version.now f.book.now f.rule.now c.if-line-gt-MOST_LINE_BYTES.false f.ensures
-        (sym w.if-is_word.ensures) (sym w.if-is_word-2.ensures) (sym w.if-is_word-3.ensures))
-    | else-is_word-via-then-is_word+else-is_word-2 w ↦ sym (book_wrong_version c.args.line.now f.word.now f.version.now f.book.now f.rule.now c.if-line-gt-MOST_LINE_BYTES.false f.ensures
-        (sym w.if-is_word.ensures) (sym w.if-is_word-2.ensures))
-    | else-is_word-via-else-is_word w ↦ sym (book_wrong_word c.args.line.now f.word.now f.version.now f.book.now f.rule.now c.if-line-gt-MOST_LINE_BYTES.false f.ensures
-        (sym w.if-is_word.ensures)) ]
+    elim c.else-is_word.branch [
+      | else-is_word-via-then-is_word+then-is_word-2+else-is_word-3 w ↦ sym (book_wrong_rule c.args.line.now f.word.now f.version.now f.book.now f.rule.now c.if-line-gt-MOST_LINE_BYTES.false f.ensures
+          (sym w.if-is_word.ensures) (sym w.if-is_word-2.ensures) (sym w.if-is_word-3.ensures))
+      | else-is_word-via-then-is_word+else-is_word-2 w ↦ sym (book_wrong_version c.args.line.now f.word.now f.version.now f.book.now f.rule.now c.if-line-gt-MOST_LINE_BYTES.false f.ensures
+          (sym w.if-is_word.ensures) (sym w.if-is_word-2.ensures))
+      | else-is_word-via-else-is_word w ↦ sym (book_wrong_word c.args.line.now f.word.now f.version.now f.book.now f.rule.now c.if-line-gt-MOST_LINE_BYTES.false f.ensures
+          (sym w.if-is_word.ensures))
+    ]

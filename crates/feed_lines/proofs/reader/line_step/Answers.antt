@@ -10,19 +10,21 @@ done c =
     let bytes = c.args.taken.now.bytes.items in
     let start = c.args.taken.now.start in
     let number = c.args.number in
-    elim c.if-number-eq1.branch
-    [ then-number-eq1 w ↦ rw (w.step-is, w.matches-is)
-        (header_done bytes start (number - 1) c.args.end number c.args.matches.now.names.items c.line-line.result.now w.header_step-step.result
-            c.requires.reading c.requires.ended (omega arith) w.if-number-eq1.true c.line-line.ensures w.header_step-step.ensures.step)
-    | else-number-eq1 w ↦ rw (w.step-is, w.matches-is)
-        (quote_done bytes start (number - 1) c.args.end number c.args.matches.now.names.items w.quote_step-step.new.matches.names.items c.line-line.result.now w.quote_step-step.result
-            c.requires.reading c.requires.ended (omega arith) (omega arith) c.line-line.ensures w.quote_step-step.ensures.step) ]
+    elim c.if-number-eq1.branch [
+      | then-number-eq1 w ↦ rw (w.step-is, w.matches-is)
+          (header_done bytes start (number - 1) c.args.end number c.args.matches.now.names.items c.line-line.result.now w.header_step-step.result
+          c.requires.reading c.requires.ended (omega arith) w.if-number-eq1.true c.line-line.ensures w.header_step-step.ensures.step)
+      | else-number-eq1 w ↦ rw (w.step-is, w.matches-is)
+          (quote_done bytes start (number - 1) c.args.end number c.args.matches.now.names.items w.quote_step-step.new.matches.names.items c.line-line.result.now w.quote_step-step.result
+          c.requires.reading c.requires.ended (omega arith) (omega arith) c.line-line.ensures w.quote_step-step.ensures.step)
+    ]
 
 few_names : (c : goal.After-pass) → length c.if-number-eq1.matches.names.items ≤ 256
 few_names c =
-    elim c.if-number-eq1.branch
-    [ then-number-eq1 w ↦ rw w.matches-is c.requires.reading.few_names
-    | else-number-eq1 w ↦ rw w.matches-is w.quote_step-step.ensures.few ]
+    elim c.if-number-eq1.branch [
+      | then-number-eq1 w ↦ rw w.matches-is c.requires.reading.few_names
+      | else-number-eq1 w ↦ rw w.matches-is w.quote_step-step.ensures.few
+    ]
 
 pub returns-clause-item : goal.returns-clause-item
 returns-clause-item c = (done c).item

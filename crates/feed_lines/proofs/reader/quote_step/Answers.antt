@@ -21,6 +21,7 @@ pub returns-then-admit-clause-step : goal.returns-then-admit-clause-step
 returns-then-admit-clause-step c = λ before same.
     let quote = line_text c.in-Some.accepted in
     let names = c.args.matches.now.names.items in
-    rw (room before c.args.number c.args.line.now quote names (omega arith) c.in-Some.ensures.text same c.if-admit.ensures.answer)
-      ( ap (λ n. Accepts n quote) c.in-Some.ensures.numbered
-      , matches_after before quote names c.admit.new.self.names.items (quotes c.in-Some.accepted c.in-Some.ensures.plain.1) same c.if-admit.ensures.answer c.if-admit.ensures.names )
+    rw (room before c.args.number c.args.line.now quote names (omega arith) c.in-Some.ensures.text same c.if-admit.ensures.answer) (
+      ap (λ n. Accepts n quote) c.in-Some.ensures.numbered,
+      matches_after before quote names c.admit.new.self.names.items (quotes c.in-Some.accepted c.in-Some.ensures.plain.1) same c.if-admit.ensures.answer c.if-admit.ensures.names,
+    )

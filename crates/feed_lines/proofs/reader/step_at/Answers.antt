@@ -16,7 +16,7 @@ returns-in-TooLong-clause-item c =
     let k = c.args.number - 1 in
     let stands = rw c.in-TooLong.is at c.requires.stands in
     open_item bytes start k c.args.matches.now.names.items c.requires.reading stands.0 (step.NotBuilt c.args.number)
-        (ending_not_plain (drop start bytes) (suc k) (omega (arith, stands.1)) ∙ same_number c.args.number c.requires.numbered)
+    (ending_not_plain (drop start bytes) (suc k) (omega (arith, stands.1)) ∙ same_number c.args.number c.requires.numbered)
 
 pub returns-in-TooLong-clause-whole : goal.returns-in-TooLong-clause-whole
 returns-in-TooLong-clause-whole c = λ ends a b.
@@ -29,7 +29,7 @@ returns-then-unended_bytes-eq0-clause-item c =
     let start = c.args.taken.now.start in
     let k = c.args.number - 1 in
     open_item bytes start k c.args.matches.now.names.items c.requires.reading (rw c.in-Unended.is at c.requires.stands) step.End
-        (ends_well (drop start bytes) (suc k) (sym c.unended_bytes.ensures ∙ c.if-unended_bytes-eq0.true) (omega (arith, c.if-number-gt1.true)))
+    (ends_well (drop start bytes) (suc k) (sym c.unended_bytes.ensures ∙ c.if-unended_bytes-eq0.true) (omega (arith, c.if-number-gt1.true)))
 
 pub returns-else-number-gt1-clause-item : goal.returns-else-number-gt1-clause-item
 returns-else-number-gt1-clause-item c =
@@ -37,13 +37,14 @@ returns-else-number-gt1-clause-item c =
     let start = c.args.taken.now.start in
     let k = c.args.number - 1 in
     open_item bytes start k c.args.matches.now.names.items c.requires.reading (rw c.in-Unended.is at c.requires.stands) (step.NotBuilt c.args.number)
-        (elim c.else-number-gt1.branch
-            [ else-number-gt1-via-then-number-gt1+else-unended_bytes-eq0 w ↦
-                ending_not_plain (drop start bytes) (suc k) (omega (arith, w.unended_bytes.ensures, w.if-unended_bytes-eq0.false)) ∙ same_number c.args.number c.requires.numbered
-            | else-number-gt1-via-else-number-gt1 w ↦
-                ends_empty (drop start bytes) (suc k) (omega (arith, w.if-number-gt1.false)) ∙ same_number c.args.number c.requires.numbered ])
+    (elim c.else-number-gt1.branch [
+      | else-number-gt1-via-then-number-gt1+else-unended_bytes-eq0 w ↦
+          ending_not_plain (drop start bytes) (suc k) (omega (arith, w.unended_bytes.ensures, w.if-unended_bytes-eq0.false)) ∙ same_number c.args.number c.requires.numbered
+      | else-number-gt1-via-else-number-gt1 w ↦
+          ends_empty (drop start bytes) (suc k) (omega (arith, w.if-number-gt1.false)) ∙ same_number c.args.number c.requires.numbered
+    ])
 
 pub returns-in-ReadFault-clause-item : goal.returns-in-ReadFault-clause-item
 returns-in-ReadFault-clause-item c =
     open_item c.args.taken.now.bytes.items c.args.taken.now.start (c.args.number - 1) c.args.matches.now.names.items c.requires.reading
-        (rw c.in-ReadFault.is at c.requires.stands) step.ReadFault refl
+    (rw c.in-ReadFault.is at c.requires.stands) step.ReadFault refl

@@ -9,9 +9,10 @@ returns-in-Some-clause-stands g c =
     ended_earlier c.reads.self.bytes.items c.reads.self.start c.reads.from c.reads.invariant.after c.in-Some.end c.reads.invariant.looked c.in-Some.ensures
 
 pub returns-then-from-self-gt-MOST_LINE_BYTES-clause-stands : goal.returns-then-from-self-gt-MOST_LINE_BYTES-clause-stands
-returns-then-from-self-gt-MOST_LINE_BYTES-clause-stands g c =
-    ( one_line_on c.reads.self.bytes.items c.reads.self.start c.reads.from c.reads.invariant.after c.reads.invariant.looked c.in_default.ensures
-    , omega (arith, length-drop c.reads.self.start c.reads.self.bytes.items) )
+returns-then-from-self-gt-MOST_LINE_BYTES-clause-stands g c = (
+  one_line_on c.reads.self.bytes.items c.reads.self.start c.reads.from c.reads.invariant.after c.reads.invariant.looked c.in_default.ensures,
+  omega (arith, length-drop c.reads.self.start c.reads.self.bytes.items),
+)
 
 pub returns-in-Ok-eq0-clause-stands : goal.returns-in-Ok-eq0-clause-stands
 returns-in-Ok-eq0-clause-stands g c =
