@@ -1,4 +1,4 @@
-use Rattle.std.specs.Prelude.{ℕ, ℤ, pos, negsuc, ◌≡◌, ◌<◌, ◌+◌, ◌*◌, ◌-ℤ◌, ◌*ℤ◌, ◌≤ℤ◌, ◌<ℤ◌, ◌↔◌}
+use Rattle.std.specs.Prelude.{ℕ, ℤ, pos, negsuc, ◌≡◌, ◌<◌, ◌+◌, ◌*◌, ◌-ℤ◌, ◌*ℤ◌, ◌≤ℤ◌, ◌<ℤ◌, ◌↔◌, if◌then◌else◌}
 use Rattle.scan_types.specs.declared.selection.Selection.{Selection}
 use Rattle.scan_types.specs.declared.selection.Selection.TheVariants.{Home, Draw, Away, HandicapHome, HandicapAway, Over, Under}
 use Rattle.scan_types.specs.declared.rule.VoidRule.TheVariants.{Void, Decided}
@@ -7,7 +7,8 @@ use Rattle.scan_types.specs.declared.outcome.Outcome.TheVariants.{Full, Abandone
 use Rattle.scan_types.specs.declared.offer.Offer.{Offer}
 use Rattle.settlement_definitions.specs.declared.leg_result.LegResult.{LegResult}
 use Rattle.settlement_definitions.specs.declared.leg_result.LegResult.TheVariants.{Push}
-use Rattle.settlement_definitions.specs.Decided.{IsDecided}
+use Rattle.settlement_definitions.specs.Legs.{leg_result}
+use Rattle.settlement_definitions.specs.Decided.{IsDecided, exceeds_line}
 use Rattle.settlement_definitions.specs.Abandonment.{leg_at}
 use Rattle.settlement_definitions.specs.Gain.{gain}
 
@@ -50,6 +51,12 @@ DecidedStands =
 abbrev pub UndecidedPushes : Type 0
 UndecidedPushes =
     (selection : Selection) (leg : ℤ) (h a : ℕ) → ((r : LegResult) → IsDecided selection leg h a r → ⊥) → leg_at Decided selection leg (Abandoned h a) ≡ Push
+
+-- whether every later score agrees is told by the goals: they exceed the line of an over or under leg
+abbrev pub GoalsDecide : Type 0
+GoalsDecide =
+    (selection : Selection) (leg : ℤ) (h a : ℕ)
+    → leg_at Decided selection leg (Abandoned h a) ≡ (if exceeds_line selection leg h a then leg_result selection leg h a else Push)
 
 -- an over or under leg is decided exactly once the goals exceed its line
 abbrev pub TotalDecidedAboveLine : Type 0

@@ -1,4 +1,4 @@
-ghost use Rattle.settlement_definitions.specs.Laws.{ResultByDifference, VoidGivesBack, DecidedStands, UndecidedPushes, TotalDecidedAboveLine, OthersStayOpen, GainInRange};
+ghost use Rattle.settlement_definitions.specs.Laws.{ResultByDifference, VoidGivesBack, DecidedStands, UndecidedPushes, GoalsDecide, TotalDecidedAboveLine, OthersStayOpen, GainInRange};
 
 /// A bet on the result gains at every final score what it gains at 1-0, 0-0 or 0-1.
 pub fn results_go_by_difference()
@@ -15,6 +15,11 @@ pub fn void_gives_back()
 pub fn decided_means_every_later_score()
     ensures stands { DecidedStands }
     ensures pushes { UndecidedPushes }
+{}
+
+/// Whether every later score agrees is told by the goals: they exceed the line of an over or under leg.
+pub fn goals_decide()
+    ensures { GoalsDecide }
 {}
 
 /// An over or under leg is decided exactly once the goals exceed its line.
