@@ -1,0 +1,4 @@
+pub mod Columns
+pub mod NarrowRows
+pub mod Scan
+pub mod Written

@@ -1,0 +1,146 @@
+// The combination of two rows that makes the first 0 in a column.
+ghost use Rattle.std.specs.Prelude.{◌≡◌, ◌<◌, ◌^◌, length, pos, ◌<ℤ◌, ◌-ℤ◌, ◌*ℤ◌, SomeIff, IfSome, IfNone, OnOk, IfErr, OnErr};
+ghost use Rattle.std.specs.List.{All};
+ghost use Rattle.row_definitions.specs.Rows.{entry, IsPositiveMultiple};
+ghost use Rattle.row_definitions.specs.Combination.{FitsEntry, ProductsFit, PassesNowhere, PassesFirst, plain_combination, combined, target_factor, pivot_factor};
+
+use crate::division::primitive;
+use crate::divisor::{divisor_of_pair, quotient};
+use crate::narrow::is_narrow;
+
+/// A combination passed 128 bits: in this column, the first such, one of the two products or their difference is above
+/// `2^127 - 1` or below `-(2^127 - 1)`.
+#[derive(Clone, Copy, Debug, PartialEq, Eq)]
+pub struct Passed {
+    pub column: u32,
+}
+
+/// Makes the target 0 in column `at`. With `g` the greatest common divisor of the two entries there, it becomes the
+/// primitive of `(pivot[at] / g) * target - (target[at] / g) * pivot`: the combination `pivot[at] * target - target[at] *
+/// pivot`, in which nothing is divided, is a positive multiple of it. Where a product or a difference passes 128 bits,
+/// the first such column is answered and the target stays as it was. The pivot's entry in the column is above 0, and no
+/// entry is the least `i128`.
+pub fn combine(target: &mut [i128], pivot: &[i128], at: usize) -> Result<(), Passed>
+    requires lengths { length target.old ≡ length pivot.now }
+    requires columns { length target.old < 2 ^ 32 }
+    requires at_in_range { at < length target.old }
+    requires positive { pos 0 <ℤ entry pivot.now at }
+    requires target_fits { All FitsEntry target.old }
+    requires pivot_fits { All FitsEntry pivot.now }
+
+    ensures ok { OnOk result (target.new ≡ combined target.old pivot.now at) }
+    ensures multiple { OnOk result (IsPositiveMultiple (plain_combination target.old pivot.now at) target.new) }
+    ensures passes_nowhere { OnOk result (PassesNowhere target.old pivot.now at) }
+
+    ensures passes_first { IfErr result (λ e. PassesFirst target.old pivot.now at e.column) }
+    ensures unchanged { OnErr result (target.new ≡ target.old) }
+
+    ensures fits { All FitsEntry target.new }
+{
+    match first_passing(target, pivot, at) {
+        Some(column) => Err(Passed { column }),
+        None => {
+            combine_within(target, pivot, at);
+            Ok(())
+        }
+    }
+}
+
+/// The test of `combine`: the first column in which it passes 128 bits. The conditions are those of `combine`. Rows whose
+/// numbers fit 64 bits need no product formed.
+pub fn first_passing(target: &[i128], pivot: &[i128], at: usize) -> Option<u32>
+    requires lengths { length target.now ≡ length pivot.now }
+    requires columns { length target.now < 2 ^ 32 }
+    requires at_in_range { at < length target.now }
+    requires positive { pos 0 <ℤ entry pivot.now at }
+    requires target_fits { All FitsEntry target.now }
+    requires pivot_fits { All FitsEntry pivot.now }
+
+    ensures first { IfSome result (PassesFirst target.now pivot.now at) }
+    ensures nowhere { IfNone result (PassesNowhere target.now pivot.now at) }
+{
+    if is_narrow(target) && is_narrow(pivot) {
+        return None;
+    }
+    let factors = factors_of(target, pivot, at);
+    for column in 0..target.len() {
+        if checked_entry(target[column], pivot[column], factors).is_none() {
+            return Some(column as u32);
+        }
+    }
+    None
+}
+
+/// What `combine` does where it passes nowhere, for a caller that tested that. The other conditions are those of
+/// `combine`.
+pub fn combine_within(target: &mut [i128], pivot: &[i128], at: usize)
+    requires lengths { length target.old ≡ length pivot.now }
+    requires at_in_range { at < length target.old }
+    requires positive { pos 0 <ℤ entry pivot.now at }
+    requires target_fits { All FitsEntry target.old }
+    requires pivot_fits { All FitsEntry pivot.now }
+    requires passes_nowhere { PassesNowhere target.old pivot.now at }
+
+    ensures value { target.new ≡ combined target.old pivot.now at }
+    ensures multiple { IsPositiveMultiple (plain_combination target.old pivot.now at) target.new }
+    ensures fits { All FitsEntry target.new }
+{
+    let factors = factors_of(target, pivot, at);
+    for column in 0..target.len() {
+        target[column] = fitting_entry(target[column], pivot[column], factors);
+    }
+    primitive(target);
+}
+
+// What the two rows are multiplied by.
+#[derive(Clone, Copy)]
+struct Factors {
+    target: i128,
+    pivot: i128,
+}
+
+// The two entries of the column, divided by their greatest common divisor.
+fn factors_of(target: &[i128], pivot: &[i128], at: usize) -> Factors
+    requires lengths { length target.now ≡ length pivot.now }
+    requires at_in_range { at < length target.now }
+    requires positive { pos 0 <ℤ entry pivot.now at }
+    requires target_fits { All FitsEntry target.now }
+    requires pivot_fits { All FitsEntry pivot.now }
+    ensures target { result.target ≡ target_factor target.now pivot.now at }
+    ensures pivot { result.pivot ≡ pivot_factor target.now pivot.now at }
+{
+    let divisor = divisor_of_pair(pivot[at], target[at]);
+    Factors {
+        target: quotient(pivot[at], divisor),
+        pivot: quotient(target[at], divisor),
+    }
+}
+
+// An entry of the combination, where its products and their difference fit.
+fn checked_entry(target: i128, pivot: i128, factors: Factors) -> Option<i128>
+    ensures { SomeIff result (ProductsFit factors.target factors.pivot target pivot) (factors.target *ℤ target -ℤ factors.pivot *ℤ pivot) }
+{
+    let target_product = product(factors.target, target)?;
+    let pivot_product = product(factors.pivot, pivot)?;
+    difference(target_product, pivot_product)
+}
+
+fn fitting_entry(target: i128, pivot: i128, factors: Factors) -> i128
+    requires { ProductsFit factors.target factors.pivot target pivot }
+    ensures { result ≡ factors.target *ℤ target -ℤ factors.pivot *ℤ pivot }
+{
+    factors.target * target - factors.pivot * pivot
+}
+
+fn product(a: i128, b: i128) -> Option<i128>
+    ensures { SomeIff result (FitsEntry (a *ℤ b)) (a *ℤ b) }
+{
+    a.checked_mul(b).filter(|product| *product != i128::MIN)
+}
+
+fn difference(a: i128, b: i128) -> Option<i128>
+    ensures { SomeIff result (FitsEntry (a -ℤ b)) (a -ℤ b) }
+{
+    a.checked_sub(b)
+        .filter(|difference| *difference != i128::MIN)
+}

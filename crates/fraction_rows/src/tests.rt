@@ -1,0 +1,57 @@
+use super::*;
+
+const LARGEST: i128 = i128::MAX;
+
+#[test]
+fn passes_in_the_first_column_where_a_product_does(rt: HostRuntime) {
+    // 3 * 2^126 is above 2^127 - 1.
+    let mut target = [1, 0x4000_0000_0000_0000_0000_0000_0000_0000];
+    let pivot = [3, 0x4000_0000_0000_0000_0000_0000_0000_0000];
+    assert_eq!(rt; combine(&mut target, &pivot, 0), Err(Passed { column: 1 }));
+    assert_eq!(rt; target, [1, 0x4000_0000_0000_0000_0000_0000_0000_0000]);
+}
+
+#[test]
+fn combines_and_divides(rt: HostRuntime) {
+    // 2 * [2, 4, 6] - 1 * [4, 2, 0] = [0, 6, 12].
+    let mut target = [2, 4, 6];
+    assert_eq!(rt; combine(&mut target, &[4, 2, 0], 0), Ok(()));
+    assert_eq!(rt; target, [0, 1, 2]);
+}
+
+#[test]
+fn tests_before_it_combines(rt: HostRuntime) {
+    // 3 * [5, 7] - 5 * [3, 2] = [0, 11].
+    let mut target = [5, 7];
+    assert_eq!(rt; first_passing(&target, &[3, 2], 0), None);
+    combine_within(&mut target, &[3, 2], 0);
+    assert_eq!(rt; target, [0, 1]);
+}
+
+#[test]
+fn primitive_keeps_signs(rt: HostRuntime) {
+    let mut row = [-6, 0, 4, -10];
+    primitive(&mut row);
+    assert_eq!(rt; row, [-3, 0, 2, -5]);
+}
+
+#[test]
+fn zeros_stay(rt: HostRuntime) {
+    let mut row = [0, 0];
+    primitive(&mut row);
+    assert_eq!(rt; row, [0, 0]);
+}
+
+#[test]
+fn extremes(rt: HostRuntime) {
+    let mut row = [LARGEST, -LARGEST, 0];
+    primitive(&mut row);
+    assert_eq!(rt; row, [1, -1, 0]);
+    // 1 * -LARGEST - 1 * 1 is the least number, which an entry may not be.
+    let mut target = [1, -LARGEST];
+    assert_eq!(rt; combine(&mut target, &[1, 1], 0), Err(Passed { column: 1 }));
+    // 1 * LARGEST - -1 * 0 is the largest.
+    let mut fitting = [-1, LARGEST];
+    assert_eq!(rt; combine(&mut fitting, &[1, 0], 0), Ok(()));
+    assert_eq!(rt; fitting, [0, 1]);
+}

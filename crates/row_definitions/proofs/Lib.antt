@@ -1,0 +1,4 @@
+pub mod Numbers
+pub mod Divisors
+pub mod Primitives
+pub mod Combinations
