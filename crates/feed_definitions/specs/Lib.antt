@@ -2,3 +2,4 @@ pub mod Lines
 pub mod Numbers
 pub mod Plain
 pub mod Views
+pub mod Answered
