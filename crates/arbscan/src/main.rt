@@ -4,9 +4,9 @@
 use desk_io::{FileOpener, OutSink};
 use scan_desk::{WANT_OF_MEMORY, desk};
 use std::alloc::AllocError;
-use std::env;
-use std::io;
 use std::process::ExitCode;
+use std::rt::Env;
+use std::{env, io};
 
 /// The words after the program's name. A word that is no text makes none of them a command.
 fn words<R: Env + AllocGlobal>(rt: &R) -> Result<Vec<String>, AllocError> {

@@ -46,14 +46,18 @@ pub course_of_run : {S : Type 0} (left : S → Option (List ℕ)) (faults : S �
     → MatchResult text (λ t. IsWritten (record { status = status; text = t.items }) answer old new sink_before sink_after) (λ _. (answer ≡ 7) × Keeps old new)
     → IsCourseOfRun left faults told count ends answer old new sink_before sink_after
 course_of_run left faults told count ends feeds stop status answer (Ok text) old new sink_before sink_after read due written =
-    inl (record { status = status; text = text.items }, record {
-      texts = read.texts;
-      read = read.read;
-      stop = stop;
-      stop_is = read.stop_is;
-      all = λ e. (read.whole e).0;
-      due_is = due read.texts (λ e. parts_are read.texts feeds (read.whole e).1);
-    }, written)
+    inl (
+      record { status = status; text = text.items },
+      record {
+        texts = read.texts;
+        read = read.read;
+        stop = stop;
+        stop_is = read.stop_is;
+        all = λ e. (read.whole e).0;
+        due_is = due read.texts (λ e. parts_are read.texts feeds (read.whole e).1);
+      },
+      written,
+    )
 course_of_run left faults told count ends feeds stop status answer (Err _) old new sink_before sink_after read due written = inr written
 
 -- what is left as it was keeps what was written

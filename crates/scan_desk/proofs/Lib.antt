@@ -1,4 +1,4 @@
-pub mod StillTold
+pub mod Opened
 pub mod ReadingSteps
 pub mod FeedOf
 pub mod ReadAll

@@ -15,3 +15,6 @@ pub use ending::DEFAULT_PIVOTS;
 pub use feed_end::{FeedEnd, FeedStop};
 pub use program::{DeskEnd, desk};
 pub use writing::WANT_OF_MEMORY;
+
+#[cfg(test)]
+mod tests;

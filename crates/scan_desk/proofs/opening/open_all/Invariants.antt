@@ -1,8 +1,8 @@
-use Rattle.std.proofs.Common.{◌≡◌, ◌≤◌, map, string_bytes}
+use Rattle.std.proofs.Common.{◌≡◌, ◌≤◌, map, take, string_bytes}
 use Rattle.std.specs.VecDeque.{deque_len}
 use Rattle.scan_desk.specs.Told.{told_bytes}
 use Rattle.scan_desk.specs.Opening.{AreOpened}
-use Rattle.scan_desk.proofs.StillTold.{StillTold}
+use Rattle.desk_io.specs.Opener.{OpenedUnder}
 use Rattle.scan_desk.proofs.opening.open_all.Given as goal
 
 -- the sources so far are those of the first names, and what is told now is what is left of what was told
@@ -13,6 +13,6 @@ invariant-loop-number g l =
     record {
       count : deque_len l.sources ≡ l.number;
       faults : g.O.Opener.faults l.fn.opener ≤ g.O.Opener.faults l.opener;
-      told : StillTold told_first (g.O.Opener.told l.opener) names l.number;
+      told : OpenedUnder (take l.number names) told_first (g.O.Opener.told l.opener);
       opened : AreOpened g.O.S.Source.left g.O.S.Source.faults (told_bytes told_first names) 0 l.sources.items;
     }

@@ -35,9 +35,9 @@ returns-in-Ok g c = λ told opened.
     let before = c.args.sink.now in
     let after = c.write_due-status.new.sink in
     let P : List (FeedEnd g.row.S.Denot) → Type 0 = λ ends. (texts : List (List ℕ)) → (r.stop ≡ stops.End → map feed_part c.deref-in-Ok.result.now ≡ map part_of texts) →
-        IfOk c.due-status.result.1 (λ text. IsDueAfter r.stop ends texts (record { status = c.due-status.result.0; text = text.items })) in
+    IfOk c.due-status.result.1 (λ text. IsDueAfter r.stop ends texts (record { status = c.due-status.result.0; text = text.items })) in
     let Q : List ReadFeed → Type 0 = λ feeds. (texts : List (List ℕ)) → (r.stop ≡ stops.End → map feed_part feeds ≡ map part_of texts) →
-        IfOk c.due-status.result.1 (λ text. IsDueAfter r.stop r.ends.items texts (record { status = c.due-status.result.0; text = text.items })) in
+    IfOk c.due-status.result.1 (λ text. IsDueAfter r.stop r.ends.items texts (record { status = c.due-status.result.0; text = text.items })) in
     course_of_run g.S.Source.left g.S.Source.faults told (deque_len c.args.sources) r.ends.items r.feeds.items r.stop c.due-status.result.0 c.write_due-status.result c.due-status.result.1
-        (K.written before) (K.written after) (K.faults before) (K.faults after) (c.in-Ok.ensures told opened) (subst Q c.deref-in-Ok.ensures.value (subst P c.deref.ensures.value c.due-status.ensures))
-        (written_kept c.due-status.result.1 c.due-status.result.0 c.write_due-status.result K.written before after (K.faults before) (K.faults after) c.write_due-status.ensures)
+    (K.written before) (K.written after) (K.faults before) (K.faults after) (c.in-Ok.ensures told opened) (subst Q c.deref-in-Ok.ensures.value (subst P c.deref.ensures.value c.due-status.ensures))
+    (written_kept c.due-status.result.1 c.due-status.result.0 c.write_due-status.result K.written before after (K.faults before) (K.faults after) c.write_due-status.ensures)

@@ -39,8 +39,8 @@ returns-in-Err-Feed g c =
     let after = c.write_due.new.sink in
     let cause = rw c.in-Err-Feed.field-0-is at c.in-Err-Feed.ensures.failed in
     course_unopened S.left S.faults (g.O.Opener.told c.args.opener.now) words names (g.O.Opener.faults c.args.opener.now) (g.O.Opener.faults c.open_all.new.opener) c.in-Err-Feed.feed c.new-in-Err-Feed.result.items c.write_due.result c.cannot_be_opened.result
-        (K.written before) (K.written after) (K.faults before) (K.faults after) (sym c.in-Some.ensures) (omega (arith, cause, length-map c.in-Some.names.now (string_bytes {Z = Global})), cause.1) c.new-in-Err-Feed.ensures.items c.cannot_be_opened.ensures
-        (written_kept c.cannot_be_opened.result 3 c.write_due.result K.written before after (K.faults before) (K.faults after) c.write_due.ensures)
+    (K.written before) (K.written after) (K.faults before) (K.faults after) (sym c.in-Some.ensures) (omega (arith, cause, length-map c.in-Some.names.now (string_bytes {Z = Global})), cause.1) c.new-in-Err-Feed.ensures.items c.cannot_be_opened.ensures
+    (written_kept c.cannot_be_opened.result 3 c.write_due.result K.written before after (K.faults before) (K.faults after) c.write_due.ensures)
 
 pub returns-in-Ok : goal.returns-in-Ok
 returns-in-Ok g c =
@@ -54,4 +54,4 @@ returns-in-Ok g c =
     let count : deque_len c.in-Ok.sources ≡ length names = omega (arith, c.in-Ok.ensures.each, length-map c.in-Some.names.now (string_bytes {Z = Global})) in
     let P : ℕ → Type 0 = λ n. IsCourseOfRun S.left S.faults (told_bytes told names) n c.read_and_write.result.feeds.items c.read_and_write.result.status (K.written before) (K.written after) (K.faults before) (K.faults after) in
     course_of_names S.left S.faults told words names (g.O.Opener.faults c.args.opener.now) (g.O.Opener.faults c.open_all.new.opener) c.read_and_write.result.feeds.items c.read_and_write.result.status
-        (K.written before) (K.written after) (K.faults before) (K.faults after) (sym c.in-Some.ensures) (subst P count (c.read_and_write.ensures (told_bytes told names) c.in-Ok.ensures.opened))
+    (K.written before) (K.written after) (K.faults before) (K.faults after) (sym c.in-Some.ensures) (subst P count (c.read_and_write.ensures (told_bytes told names) c.in-Ok.ensures.opened))

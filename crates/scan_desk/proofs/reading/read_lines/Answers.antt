@@ -19,7 +19,7 @@ loop-line-preserved g c =
     record {
       goes_on = GoesOn_more S.left S.faults c.args.reader.now c.loop-line.reader c.next.new.self inv.goes_on c.next.ensures.taken c.next.ensures.faults_kept c.next.ensures.feed;
       steps = rw (items, answered_push book c.loop-line.accepted.items line)
-        (HasAnswered_more c.loop-line.reader c.next.new.self (answered book c.loop-line.accepted.items) (Accepts line.line (line_text line)) inv.steps (c.next.ensures.earlier false false)
+          (HasAnswered_more c.loop-line.reader c.next.new.self (answered book c.loop-line.accepted.items) (Accepts line.line (line_text line)) inv.steps (c.next.ensures.earlier false false)
           (rw c.in-Ok-Line.field-0-is at c.in-Ok-Line.ensures.step) c.in-Ok-Line.ensures.counted (rw c.in-Ok-Line.field-0-is at c.in-Ok-Line.ensures.over));
       lines = rw items (All-push IsResultQuote c.loop-line.accepted.items line inv.lines (rw c.in-Ok-Line.field-0-is at c.in-Ok-Line.ensures.plain));
     }

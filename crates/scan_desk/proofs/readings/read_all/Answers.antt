@@ -47,12 +47,12 @@ loop-source-preserved g c =
       room = omega (arith, c.push-kept.ensures.capacity, inv.room);
       room_whole = omega (arith, c.push-kept_whole.ensures.capacity, inv.room_whole);
       read = λ told opened.
-        let P : List ReadFeed → Type 0 = λ fs. IsFeedOf S.left S.faults (told (length ends.items)) (books_of fs) c.len-in-Some.result end c.read_feed-end.result.1 in
-        let Q : ℕ → Type 0 = λ n. IsFeedOf S.left S.faults (told (length ends.items)) (books_of feeds.items) n end c.read_feed-end.result.1 in
-        let R : Option ReadFeed → Type 0 = λ whole. IsFeedOf S.left S.faults (told (length ends.items)) (books_of feeds.items) (length ends.items) end whole in
-        let before = rw queue at inv.read told opened in
-        let read = subst R c.in-Some-whole.is (subst Q number (subst P c.deref.ensures.value (c.read_feed-end.ensures (told (length ends.items)) before.opened.0))) in
-        rw (items, items_whole) (HasRead_more S.left S.faults told ends.items feeds.items source c.pop_front.new.self.items end feed before read);
+          let P : List ReadFeed → Type 0 = λ fs. IsFeedOf S.left S.faults (told (length ends.items)) (books_of fs) c.len-in-Some.result end c.read_feed-end.result.1 in
+          let Q : ℕ → Type 0 = λ n. IsFeedOf S.left S.faults (told (length ends.items)) (books_of feeds.items) n end c.read_feed-end.result.1 in
+          let R : Option ReadFeed → Type 0 = λ whole. IsFeedOf S.left S.faults (told (length ends.items)) (books_of feeds.items) (length ends.items) end whole in
+          let before = rw queue at inv.read told opened in
+          let read = subst R c.in-Some-whole.is (subst Q number (subst P c.deref.ensures.value (c.read_feed-end.ensures (told (length ends.items)) before.opened.0))) in
+          rw (items, items_whole) (HasRead_more S.left S.faults told ends.items feeds.items source c.pop_front.new.self.items end feed before read);
     }
 
 pub returns : goal.returns
@@ -62,4 +62,4 @@ returns g c = λ told opened.
     let ends = c.loop-source.ends in
     let none : deque_len c.loop-source.sources ≡ 0 = c.in_default.ensures.cases.0 in
     AreRead_all S.left S.faults told (deque_len c.args.sources) ends.items c.loop-source.feeds.items c.loop-source.sources.items (inv.read told opened)
-        (omega (arith, none, inv.count, c.requires.some, ends.ok.0)) (omega (arith, none, inv.count, ends.ok.0))
+    (omega (arith, none, inv.count, c.requires.some, ends.ok.0)) (omega (arith, none, inv.count, ends.ok.0))
