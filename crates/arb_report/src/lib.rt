@@ -1,20 +1,21 @@
-//! stub
+//! The report as a text.
+//!
+//! - `appends`: texts, fields and numbers at the end of a text that grows.
+//! - `words`: odds, lines, selections, rules and outcomes as fields.
+//! - `findings`: findings as fields.
+//! - `lines`: the lines of feeds and of matches.
+//! - `report`: the whole text.
+//!
+//! The text is one `Vec` to which each part is appended once: nothing is formatted aside.
 #![tactic(auto)]
-ghost use Rattle.std.specs.Prelude.{◌≡◌, map, IfOk};
-ghost use Rattle.report_definitions.specs.Standing.{feed_part};
-ghost use Rattle.report_definitions.specs.Report.{report_text};
 
-use report_definitions::{MatchPart, ReadFeed};
-use scan_types::WantOfMemory;
-use std::alloc::Global;
+mod appends;
+mod findings;
+mod lines;
+mod report;
+mod words;
 
-pub fn report_text(
-    _alloc: Global,
-    _pivots: u32,
-    _feeds: &[ReadFeed],
-    _matches: &[MatchPart],
-) -> Result<Vec<u8>, WantOfMemory>
-    ensures exact { IfOk result (λ text. text.items ≡ report_text _pivots (map feed_part _feeds.now) _matches.now) }
-{
-    Err(WantOfMemory)
-}
+pub use report::report_text;
+
+#[cfg(test)]
+mod tests;
