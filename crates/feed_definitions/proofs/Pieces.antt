@@ -1,7 +1,7 @@
 -- A text as lines: what further bytes do to them.
-use Rattle.std.proofs.Common.{◌≡◌, ℕ, suc, zero, ◌+◌, ◌-◌, ◌<◌, ◌≤◌, Bool, true, false, cond, List, [], ◌∷◌, ◌++◌, length, take, refl, sym, ap, ◌∙◌, arith, append-nil}
+use Rattle.std.proofs.Common.{◌≡◌, ℕ, suc, ◌-◌, true, false, cond, List, [], ◌∷◌, ◌++◌, length, take, refl, sym, ap, ◌∙◌, arith, append-nil}
 use Rattle.std.specs.Prelude.{slice_index_or}
-use Rattle.std.specs.List.{slice_split, onto_first}
+use Rattle.std.specs.List.{onto_first}
 use Rattle.feed_definitions.specs.Lines.{is_line_feed, pieces, ended_lines, unended}
 
 -- all but the last
@@ -56,9 +56,10 @@ onto_first_has x (p ∷ ps) = record { first = x ∷ p; others = ps; is = refl }
 
 pub has_piece : (text : List ℕ) → HasPiece (pieces text)
 has_piece [] = record { first = []; others = []; is = refl }
-has_piece (x ∷ xs) = elim (is_line_feed x) as (λ b. HasPiece (cond b ([] ∷ pieces xs) (onto_first x (pieces xs))))
-    [ true ↦ record { first = []; others = pieces xs; is = refl }
-    | false ↦ onto_first_has x (pieces xs) ]
+has_piece (x ∷ xs) = elim (is_line_feed x) as (λ b. HasPiece (cond b ([] ∷ pieces xs) (onto_first x (pieces xs)))) [
+  | true ↦ record { first = []; others = pieces xs; is = refl }
+  | false ↦ onto_first_has x (pieces xs)
+]
 
 -- a line feed, and then more pieces
 front_after : (p : List ℕ) (ps : List (List ℕ)) → HasPiece ps → front (p ∷ ps) ≡ p ∷ front ps
@@ -82,9 +83,10 @@ pieces_joined [] more = sym (onto_nothing (pieces more))
 pieces_joined (x ∷ xs) more =
     let again = pieces_joined xs more in
     elim (is_line_feed x) as (λ b. cond b ([] ∷ pieces (xs ++ more)) (onto_first x (pieces (xs ++ more)))
-        ≡ front (cond b ([] ∷ pieces xs) (onto_first x (pieces xs))) ++ onto (end (cond b ([] ∷ pieces xs) (onto_first x (pieces xs)))) (pieces more))
-    [ true ↦ rw (front_after [] (pieces xs) (has_piece xs), end_after [] (pieces xs) (has_piece xs)) (ap (λ l. [] ∷ l) again)
-    | false ↦ ap (onto_first x) again ∙ onto_first_joins x (pieces xs) (pieces more) (has_piece xs) (has_piece more) ]
+    ≡ front (cond b ([] ∷ pieces xs) (onto_first x (pieces xs))) ++ onto (end (cond b ([] ∷ pieces xs) (onto_first x (pieces xs)))) (pieces more)) [
+      | true ↦ rw (front_after [] (pieces xs) (has_piece xs), end_after [] (pieces xs) (has_piece xs)) (ap (λ l. [] ∷ l) again)
+      | false ↦ ap (onto_first x) again ∙ onto_first_joins x (pieces xs) (pieces more) (has_piece xs) (has_piece more)
+    ]
 
 front_append : (xs ys : List (List ℕ)) → HasPiece ys → front (xs ++ ys) ≡ xs ++ front ys
 front_append [] ys h = refl

@@ -1,14 +1,11 @@
 -- What one step leaves of the steps before it, and when it makes no read.
-use Rattle.std.proofs.Common.{◌≡◌, ℕ, suc, ◌+◌, ◌-◌, ◌<◌, ◌≤◌, Bool, true, false, cond, List, [], ◌∷◌, ◌++◌, length, take, drop, refl, sym, ap, ◌∙◌, subst, arith, append-nil, length-append, add-zero}
+use Rattle.std.proofs.Common.{◌≡◌, ℕ, ◌+◌, ◌-◌, ◌<◌, ◌≤◌, Bool, false, cond, List, ◌++◌, length, take, drop, sym, ap, ◌∙◌, arith, length-append, add-zero}
 use Rattle.std.proofs.lemmas.List.{take-append-drop, length-take}
-use Rattle.feed_definitions.specs.Lines.{pieces, ended_lines, unended}
+use Rattle.feed_definitions.specs.Lines.{pieces, ended_lines}
 use Rattle.feed_definitions.specs.Plain.{steps}
-use Rattle.feed_definitions.specs.Views.{feed_step, is_read_fault, ends_feed}
-use Rattle.feed_definitions.specs.declared.step.Step.{Step}
-use Rattle.feed_definitions.specs.declared.step.Step.TheVariants as step
-use Rattle.feed_definitions.proofs.Pieces.{HasPiece, front, onto, onto_nothing, front_is, ended_joined}
+use Rattle.feed_definitions.proofs.Pieces.{front, onto, onto_nothing, front_is, ended_joined}
 use Rattle.feed_definitions.proofs.Prefixes.{steps_stay}
-use Rattle.feed_lines.specs.Reader.{ReaderView, IsReading}
+use Rattle.feed_lines.specs.Reader.{IsReading}
 
 module _ (bytes : List ℕ) (start k : ℕ) (names : List (List ℕ)) (r : IsReading bytes start k names) where
   ended_split : ended_lines bytes ≡ ended_lines (take start bytes) ++ front (pieces (drop start bytes))

@@ -1,14 +1,14 @@
 -- What a line brings after the lines before it.
-use Rattle.std.proofs.Common.{◌≡◌, ℕ, suc, zero, ◌+◌, ◌<◌, ◌≤◌, Bool, true, false, cond, leb, ◌&&◌, inl, inr, List, [], ◌∷◌, ◌++◌, length, Option, Some, None, option_map, option_and_then, MatchOption, refl, sym, ap, ◌∙◌, subst, arith}
-use Rattle.std.proofs.lemmas.Bool.{leb-true, false≢true}
+use Rattle.std.proofs.Common.{◌≡◌, ℕ, suc, zero, ◌≤◌, Bool, true, false, cond, leb, ◌&&◌, inl, inr, List, [], ◌∷◌, ◌++◌, length, Option, Some, None, option_map, MatchOption, refl, sym, ap, ◌∙◌, arith}
+use Rattle.std.proofs.lemmas.Bool.{leb-true}
 use Rattle.std.proofs.lemmas.Option.{option_and_then_some, cond_some}
 use Rattle.feed_definitions.specs.declared.step.Step.{Step}
 use Rattle.feed_definitions.specs.declared.step.Step.TheVariants as step
-use Rattle.feed_definitions.specs.Plain.{LineText, FeedStep, Book, Accepts, NotPlain, Ended, Failed, fields, book_of, book_of_fields, quote_of, quote_of_fields, plain_quote, has_room, quote_steps, line_steps, matches_of}
+use Rattle.feed_definitions.specs.Plain.{LineText, Book, Accepts, NotPlain, fields, book_of, book_of_fields, quote_of, quote_of_fields, plain_quote, has_room, quote_steps, matches_of}
 use Rattle.feed_definitions.specs.Views.{feed_step, is_read_fault, ends_feed}
 use Rattle.feed_definitions.proofs.Walk.{quote_steps_bad, quote_steps_good, line_steps_bad, line_steps_good}
 use Rattle.feed_lines.specs.Reader.{quotes_of}
-use Rattle.feed_lines.proofs.Walks.{from, Refuses, Accepting, Outcome, quotes_of_more, quotes_of_header, quotes_of_none}
+use Rattle.feed_lines.proofs.Walks.{Outcome, quotes_of_more, quotes_of_header, quotes_of_none}
 
 -- which step it is, by its place in the text
 pub record GoesOn (step : Step) : Type 0 where

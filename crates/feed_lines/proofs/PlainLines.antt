@@ -1,5 +1,5 @@
 -- What the fields of a line say of the line.
-use Rattle.std.proofs.Common.{◌≡◌, ◌≢◌, ℕ, suc, zero, ◌+◌, ◌<◌, ◌≤◌, Bool, true, false, cond, leb, ◌&&◌, List, [], ◌∷◌, ◌++◌, length, Option, Some, None, codes, option_map, is_some, IfSome, refl, sym, ap, ◌∙◌, subst, arith}
+use Rattle.std.proofs.Common.{◌≡◌, ◌≢◌, ℕ, ◌≤◌, Bool, true, false, cond, leb, ◌&&◌, List, [], ◌∷◌, length, Option, Some, None, codes, option_map, is_some, IfSome, refl, sym, ap, ◌∙◌}
 use Rattle.std.specs.Str.{bytes_eq}
 use Rattle.std.proofs.lemmas.Bool.{le-leb}
 use Rattle.scan_types.specs.declared.selection.Selection.{Selection}
@@ -8,7 +8,7 @@ use Rattle.scan_types.specs.Names.{is_name_text}
 use Rattle.feed_definitions.specs.declared.accepted.Accepted.{Accepted}
 use Rattle.feed_definitions.specs.Views.{line_text}
 use Rattle.feed_definitions.specs.Numbers.{◌>>=◌, odds_of, limit_of}
-use Rattle.feed_definitions.specs.Plain.{LineText, ChangeText, Quote, fields, book_of, book_of_fields, quote_of, quote_of_fields, side_of}
+use Rattle.feed_definitions.specs.Plain.{LineText, Quote, fields, book_of, book_of_fields, quote_of, quote_of_fields, side_of}
 
 both_same : {A : Type 0} (x : A) (b : Bool) → cond b x x ≡ x
 both_same x true = refl

@@ -1,5 +1,5 @@
 -- A quote after others: whether its line is plain, and the matches after it.
-use Rattle.std.proofs.Common.{◌≡◌, ◌≢◌, ℕ, suc, zero, ◌+◌, ◌<◌, ◌≤◌, Bool, true, false, not, cond, leb, ltb, ◌&&◌, ◌||◌, List, [], ◌∷◌, ◌++◌, length, map, filter, Option, Some, None, option_map, option_and_then, MatchOption, refl, sym, ap, ◌∙◌, subst, arith, append-nil}
+use Rattle.std.proofs.Common.{◌≡◌, ℕ, ◌<◌, ◌≤◌, Bool, true, false, not, cond, leb, ltb, ◌&&◌, ◌||◌, List, [], ◌∷◌, ◌++◌, length, map, filter, Option, Some, None, option_and_then, refl, sym, ap, ◌∙◌, arith}
 use Rattle.std.specs.List.{list_any}
 use Rattle.std.specs.Str.{bytes_eq}
 use Rattle.std.proofs.lemmas.Bool.{lt-leb, le-leb, ltb-true, le-ltb, false≢true}
@@ -9,7 +9,6 @@ use Rattle.feed_definitions.specs.declared.accepted.Change.{Change}
 use Rattle.feed_definitions.specs.declared.accepted.Change.TheVariants as change
 use Rattle.feed_definitions.specs.Views.{line_text, change_text, IsQuoteInRange}
 use Rattle.feed_definitions.specs.Plain.{LineText, is_quote, is_quote_change, each_once, matches_of, has_room, quote_of, plain_quote}
-use Rattle.feed_definitions.proofs.Walk.{not_plain}
 
 -- the tests of `==` on texts
 same_text : (a b : List ℕ) → bytes_eq a b ≡ true → a ≡ b

@@ -1,18 +1,18 @@
 -- A reader's parts between two steps, and the step that its next line brings.
-use Rattle.std.proofs.Common.{◌≡◌, ℕ, suc, zero, ◌+◌, ◌*◌, ◌-◌, ◌<◌, ◌≤◌, Bool, true, false, cond, eqb, ltb, ◌&&◌, ◌⊎◌, inl, inr, List, [], ◌∷◌, ◌++◌, length, take, drop, Option, Some, None, option_map, MatchOption, refl, sym, ap, ◌∙◌, subst, arith, append-nil, append_assoc, length-append, length-drop}
+use Rattle.std.proofs.Common.{◌≡◌, ℕ, suc, ◌+◌, ◌-◌, ◌<◌, ◌≤◌, Bool, true, false, cond, eqb, ltb, ◌&&◌, inl, inr, List, [], ◌∷◌, ◌++◌, length, take, drop, Option, Some, None, option_map, MatchOption, refl, sym, ap, ◌∙◌, subst, arith, append-nil, append_assoc, length-append, length-drop}
 use Rattle.std.proofs.Math.Seq.{take-add, take-append-add}
 use Rattle.std.proofs.lemmas.Bool.{false≢true, eq-eqb, lt-ltb, le-ltb}
 use Rattle.std.proofs.lemmas.List.{take-append-drop, length-take-le}
 use Rattle.feed_definitions.specs.declared.step.Step.{Step}
-use Rattle.feed_definitions.specs.Lines.{pieces, ended_lines, unended}
-use Rattle.feed_definitions.specs.Plain.{LineText, FeedStep, Book, Accepts, NotPlain, Ended, book_of, plain_quote, matches_of, most_line_bytes, steps, ending, line_steps}
+use Rattle.feed_definitions.specs.Lines.{ended_lines, unended}
+use Rattle.feed_definitions.specs.Plain.{LineText, Book, Accepts, NotPlain, Ended, book_of, plain_quote, matches_of, most_line_bytes, steps, ending, line_steps}
 use Rattle.feed_definitions.specs.Views.{feed_step, is_read_fault, ends_feed}
 use Rattle.feed_definitions.proofs.Pieces.{ended_after, unended_after, ended_open, unended_open}
-use Rattle.feed_definitions.proofs.Prefixes.{ending_not_plain, long_stays}
+use Rattle.feed_definitions.proofs.Prefixes.{long_stays}
 use Rattle.feed_lines.specs.Reader.{IsReading, IsItem, IsWhole, quotes_of}
 use Rattle.feed_lines.specs.Taking.{IsOneLine, IsEndedAt}
 use Rattle.feed_lines.proofs.Walks.{Walked, walked, from, from_none, item_of, Refuses, Accepting, Outcome}
-use Rattle.feed_lines.proofs.Outcomes.{no_fault, refusal_ends, header_outcome, quote_outcome}
+use Rattle.feed_lines.proofs.Outcomes.{refusal_ends, header_outcome, quote_outcome}
 
 -- the quotes that the lines so far brought
 pub record Kept (lines : List (List ℕ)) (names : List (List ℕ)) : Type 0 where

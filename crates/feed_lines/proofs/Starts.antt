@@ -1,5 +1,5 @@
 -- A reader before its first step.
-use Rattle.std.proofs.Common.{◌≡◌, ℕ, ◌*◌, ◌≤◌, false, List, [], length, take, refl, sym, ap, ◌∙◌, subst, arith}
+use Rattle.std.proofs.Common.{◌≡◌, ℕ, false, List, [], refl, sym, subst, arith}
 use Rattle.feed_lines.specs.Reader.{IsReader, IsReading, quotes_of}
 
 reading_nothing : IsReading [] 0 0 []

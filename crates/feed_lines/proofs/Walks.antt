@@ -1,11 +1,11 @@
 -- The steps of plain lines one after another, and what one more line brings.
-use Rattle.std.proofs.Common.{◌≡◌, ℕ, suc, zero, ◌+◌, ◌*◌, ◌-◌, ◌<◌, ◌≤◌, Bool, true, false, cond, leb, ◌&&◌, ◌⊎◌, inl, inr, List, [], ◌∷◌, ◌++◌, length, take, drop, slice_get, Option, Some, None, option_map, option_and_then, refl, sym, ap, ◌∙◌, subst, arith, append-nil, append_assoc, length-append}
+use Rattle.std.proofs.Common.{◌≡◌, ℕ, suc, zero, ◌+◌, ◌≤◌, true, false, ◌⊎◌, List, [], ◌∷◌, ◌++◌, length, take, slice_get, Some, option_map, option_and_then, refl, sym, ap, ◌∙◌, arith}
 use Rattle.std.proofs.Math.Seq.{take-append_seam}
-use Rattle.std.proofs.lemmas.Option.{option_and_then_some, cond_some}
+use Rattle.std.proofs.lemmas.Option.{option_and_then_some}
 use Rattle.feed_definitions.specs.declared.step.Step.{Step}
-use Rattle.feed_definitions.specs.Plain.{LineText, FeedStep, Book, Accepts, NotPlain, Ended, Failed, book_of, plain_quote, quote_steps, line_steps, matches_of, steps, ending}
+use Rattle.feed_definitions.specs.Plain.{LineText, FeedStep, Book, Accepts, NotPlain, book_of, plain_quote, quote_steps, line_steps, matches_of, steps}
 use Rattle.feed_definitions.specs.Views.{feed_step, is_read_fault, ends_feed}
-use Rattle.feed_definitions.proofs.Walk.{quote_steps_bad, quote_steps_good, line_steps_bad, line_steps_good}
+use Rattle.feed_definitions.proofs.Walk.{quote_steps_good, line_steps_good}
 use Rattle.feed_lines.specs.Reader.{quotes_from, quotes_of, IsItem}
 
 -- the number after these lines from number n on

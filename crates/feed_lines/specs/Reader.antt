@@ -1,5 +1,5 @@
 -- A reader of one feed, as contracts see it, and what its parts stand for between two steps.
-use Rattle.std.specs.Prelude.{◌≡◌, ◌+◌, ◌*◌, ◌<◌, ◌≤◌, ℕ, suc, Bool, true, false, List, [], ◌∷◌, ◌++◌, Option, Some, None, option_map, length, take, slice_get}
+use Rattle.std.specs.Prelude.{◌≡◌, ◌*◌, ◌≤◌, ℕ, suc, Bool, true, false, List, [], ◌∷◌, ◌++◌, Option, Some, option_map, length, take, slice_get}
 use Rattle.feed_definitions.specs.declared.step.Step.{Step}
 use Rattle.feed_definitions.specs.Lines.{ended_lines, unended}
 use Rattle.feed_definitions.specs.Numbers.{◌>>=◌}

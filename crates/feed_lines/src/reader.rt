@@ -58,7 +58,7 @@ fn quote_step(line: &[u8], number: u32, matches: &mut MatchNames) -> Step
     }
 }
 
-/// The step of the next line, which a line feed ends at this index. Passes over it, unless it is not plain.
+/// The step of the next line, which a line feed ends at this index, and passes over it.
 fn line_step(end: usize, number: u32, taken: &mut Taken, matches: &mut MatchNames) -> Step
     requires room { 256 ≤ vec_capacity matches.old.names }
     requires numbered { 1 ≤ number }

@@ -1,6 +1,5 @@
-use Rattle.std.proofs.Common.{◌≡◌, ◌<◌, ◌≤◌, ◌^◌, ◌+◌, get_or, true, false, take, length, sym, ◌∙◌, ap, arith, add-one, subst}
+use Rattle.std.proofs.Common.{◌≡◌, get_or, true, false, arith, add-one}
 use Rattle.std.specs.Char.{is_ascii_digit}
-use Rattle.std.specs.Str.{all_ascii_digits}
 use Rattle.feed_lines.proofs.Numbers.{not_all_digits, number_not_digits, digits_below, digits_more, digit_after}
 use Rattle.feed_lines.proofs.number_text.read_number.Goals as goal
 

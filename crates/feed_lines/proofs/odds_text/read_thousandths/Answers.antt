@@ -1,8 +1,8 @@
-use Rattle.std.proofs.Common.{◌≡◌, ◌∙◌, Option, Some, None, is_none, ℕ, true, false, arith, sym, ap, eqb, ⊎_elim}
+use Rattle.std.proofs.Common.{◌≡◌, Some, None}
 use Rattle.std.specs.List.{slice_split, position}
 use Rattle.feed_definitions.specs.Numbers.{thousandths_of_parts, is_point}
 use Rattle.feed_lines.proofs.Splits.{split_none}
-use Rattle.feed_lines.proofs.Numbers.{no_point, some_point, whole_none, whole_some, many_points, units_none, with_fraction}
+use Rattle.feed_lines.proofs.Numbers.{no_point, some_point, whole_none, whole_some, units_none, with_fraction}
 use Rattle.feed_lines.proofs.odds_text.read_thousandths.Goals as goal
 
 pub returns-in_err-read_number : goal.returns-in_err-read_number

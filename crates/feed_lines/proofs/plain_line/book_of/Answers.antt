@@ -1,4 +1,4 @@
-use Rattle.std.proofs.Common.{◌≡◌, ◌∙◌, true, false, arith, sym, ap}
+use Rattle.std.proofs.Common.{◌∙◌, sym}
 use Rattle.feed_definitions.proofs.Walk.{book_of_long}
 use Rattle.feed_lines.proofs.PlainLines.{book_not_four, book_wrong_word, book_wrong_version, book_wrong_rule, book_right, name_read}
 use Rattle.feed_lines.proofs.plain_line.book_of.Goals as goal

@@ -1,4 +1,4 @@
-use Rattle.std.proofs.Common.{◌≡◌, ◌∙◌, true, false, Some, None, arith, sym, ap}
+use Rattle.std.proofs.Common.{◌∙◌, Some, sym, ap}
 use Rattle.feed_definitions.proofs.Walk.{quote_of_long}
 use Rattle.feed_lines.proofs.PlainLines.{quote_not_six, quote_wrong_word, quote_wrong_market, quote_no_name, quote_no_side, quote_no_odds, quote_no_limit, quote_all, quote_text, no_quote}
 use Rattle.feed_lines.proofs.plain_line.quote_of.Goals as goal

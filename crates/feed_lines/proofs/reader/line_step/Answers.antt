@@ -1,6 +1,4 @@
-use Rattle.std.proofs.Common.{◌≡◌, ◌-◌, ◌≤◌, length, ◌∙◌, true, false, Some, None, refl, sym, ap, subst, arith}
-use Rattle.feed_definitions.specs.Views.{ends_feed}
-use Rattle.feed_lines.specs.Reader.{IsReading}
+use Rattle.std.proofs.Common.{◌-◌, ◌≤◌, length, arith}
 use Rattle.feed_lines.proofs.Reading.{LineDone, header_done, quote_done}
 use Rattle.feed_lines.proofs.reader.line_step.Goals as goal
 use Rattle.feed_lines.proofs.reader.line_step.Goals.{then-number-eq1, else-number-eq1}

@@ -1,6 +1,6 @@
-use Rattle.std.proofs.Common.{◌≡◌, ◌∙◌, true, false, Some, None, MatchOption, refl, sym, ap, subst, arith, ◌++◌, ◌∷◌, []}
-use Rattle.feed_definitions.specs.Plain.{matches_of, plain_quote, Accepts, NotPlain}
-use Rattle.feed_definitions.specs.Views.{line_text, feed_step}
+use Rattle.std.proofs.Common.{refl, sym, ap, arith}
+use Rattle.feed_definitions.specs.Plain.{Accepts}
+use Rattle.feed_definitions.specs.Views.{line_text}
 use Rattle.feed_definitions.proofs.Walk.{not_plain}
 use Rattle.feed_lines.proofs.Quoting.{beyond, no_room, room, matches_after, quotes}
 use Rattle.feed_lines.proofs.reader.quote_step.Goals as goal

@@ -1,6 +1,6 @@
-use Rattle.std.proofs.Common.{◌≡◌, ◌<◌, ◌≤◌, ◌-◌, ◌+◌, suc, ℕ, length, drop, ◌∙◌, true, false, Some, None, refl, sym, ap, subst, arith}
+use Rattle.std.proofs.Common.{◌≡◌, ◌≤◌, ◌-◌, suc, ℕ, drop, ◌∙◌, refl, sym, ap, arith}
 use Rattle.feed_definitions.specs.declared.step.Step.TheVariants as step
-use Rattle.feed_definitions.specs.Plain.{NotPlain, Ended, ending}
+use Rattle.feed_definitions.specs.Plain.{NotPlain}
 use Rattle.feed_definitions.proofs.Prefixes.{ending_not_plain}
 use Rattle.feed_lines.proofs.Reading.{open_item, too_long_stays, ends_well, ends_empty}
 use Rattle.feed_lines.proofs.reader.step_at.Goals as goal

@@ -1,6 +1,5 @@
-use Rattle.std.proofs.Common.{◌≡◌, ℕ, Bool, ◌+◌, ◌<◌, ◌++◌, [], true, false, length, take, drop, inl, inr, refl, sym, ap, ◌∙◌, subst, arith, append-nil}
+use Rattle.std.proofs.Common.{◌≡◌, ◌<◌, ◌++◌, [], false, length, drop, inl, inr, sym, ap, ◌∙◌, subst, arith, append-nil}
 use Rattle.std.proofs.lemmas.Bool.{false≢true}
-use Rattle.feed_definitions.specs.Plain.{steps}
 use Rattle.feed_definitions.specs.Lines.{ended_lines, pieces}
 use Rattle.feed_definitions.specs.Views.{ends_feed}
 use Rattle.feed_lines.specs.Taking.{is_unended}

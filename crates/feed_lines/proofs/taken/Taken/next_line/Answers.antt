@@ -1,5 +1,4 @@
-use Rattle.std.proofs.Common.{◌≡◌, ◌≤◌, ◌<◌, ◌+◌, ◌-◌, ◌∙◌, length, drop, refl, sym, ap, subst, arith, length-drop}
-use Rattle.feed_lines.specs.Taking.{Takes, IsOneLine}
+use Rattle.std.proofs.Common.{◌∙◌, arith, length-drop}
 use Rattle.feed_lines.proofs.Splits.{one_line_on, ended_earlier}
 use Rattle.feed_lines.proofs.Takings.{takes_on, nothing_more, looked_through, no_second}
 use Rattle.feed_lines.proofs.taken.Taken.next_line.Goals as goal
