@@ -1,16 +1,16 @@
 -- What a bet on the result gains, with a book that gives the stakes back at an abandonment: it wins at its
 -- own result, loses at the two others, and comes back at an abandonment.
-use Rattle.std.proofs.Common.{◌≡◌, ◌*◌, ◌/◌, ℕ, Bool, true, false, arith, ◌∙◌, ap, refl}
+use Rattle.std.proofs.Common.{◌≡◌, ◌*◌, ◌/◌, ℕ, Bool, false, arith, ◌∙◌, ap, refl}
 use Rattle.std.specs.Prelude.{ℤ, pos, ◌+ℤ◌, ◌-ℤ◌, unsigned_abs, nat_lt, ◌==◌}
 use Rattle.std.proofs.lemmas.Int.{ints}
-use Rattle.std.proofs.Math.Nat.{mul-div-mul_left, mul-div_cancel}
+use Rattle.std.proofs.Math.Nat.{mul-div_cancel}
 use Rattle.scan_types.specs.declared.offer.Offer.{Offer}
 use Rattle.scan_types.specs.declared.selection.Selection.TheVariants.{Home, Draw, Away}
 use Rattle.scan_types.specs.declared.rule.VoidRule.TheVariants.{Void}
 use Rattle.scan_types.specs.declared.outcome.Outcome.{Outcome}
 use Rattle.scan_types.specs.declared.outcome.Outcome.TheVariants.{Full, Abandoned}
 use Rattle.settlement_definitions.specs.Legs.{win_if}
-use Rattle.settlement_definitions.specs.Gain.{leg_gain, gain, net}
+use Rattle.settlement_definitions.specs.Gain.{leg_gain, gain, paid, net}
 
 -- the gain of two equal legs that win or lose
 abbrev pub twice : ℕ → Bool → ℤ
@@ -28,13 +28,9 @@ gain_away offer h a e = rw e refl
 pub gain_abandoned : (offer : Offer) (h a : ℕ) → offer.rule ≡ Void → gain offer (Abandoned h a) ≡ pos 0
 gain_abandoned offer h a e = rw e refl
 
--- the net of a bet that wins: the stake times the odds, rounded down, less the stake
-pub net_won : (offer : Offer) (stake : ℕ) (x : Outcome) → gain offer x ≡ twice offer.odds.thousandths true → net offer stake x ≡ pos (stake * offer.odds.thousandths / 1000) -ℤ pos stake
-net_won offer stake x e =
-    let o = offer.odds.thousandths in
-    let back : unsigned_abs (pos 2000 +ℤ gain offer x) ≡ 2 * o = rw e (omega (arith, ints, offer.odds.at_least)) in
-    let half : stake * unsigned_abs (pos 2000 +ℤ gain offer x) / 2000 ≡ stake * o / 1000 = ap (λ (k : ℕ). stake * k / 2000) back ∙ (ap (λ (k : ℕ). k / 2000) (let k : stake * (2 * o) ≡ 2 * (stake * o) = omega arith in k) ∙ mul-div-mul_left (stake * o) 1000 (omega arith)) in
-    ap (λ (k : ℕ). pos k -ℤ pos stake) half
+-- a bet is paid the same at outcomes at which it gains the same
+pub net_as : (offer : Offer) (stake : ℕ) (x y : Outcome) → gain offer x ≡ gain offer y → net offer stake x ≡ pos (paid offer stake y) -ℤ pos stake
+net_as offer stake x y e = ap (λ (z : ℤ). pos (stake * unsigned_abs (pos 2000 +ℤ z) / 2000) -ℤ pos stake) e
 
 -- the net of a bet that loses
 pub net_lost : (offer : Offer) (stake : ℕ) (x : Outcome) → gain offer x ≡ twice offer.odds.thousandths false → net offer stake x ≡ pos 0 -ℤ pos stake

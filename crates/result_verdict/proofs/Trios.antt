@@ -13,15 +13,15 @@ use Rattle.scan_types.specs.declared.selection.Selection.{Selection}
 use Rattle.scan_types.specs.declared.selection.Selection.TheVariants.{Home, Draw, Away}
 use Rattle.scan_types.specs.declared.outcome.Outcome.{Outcome}
 use Rattle.scan_types.specs.declared.outcome.Outcome.TheVariants.{Full, Abandoned}
-use Rattle.settlement_definitions.specs.Gain.{net}
+use Rattle.settlement_definitions.specs.Gain.{net, paid}
 use Rattle.settlement_definitions.specs.Arbitrage.{sum_over, total_net, need, IsArbitrage}
 use Rattle.result_verdict.specs.declared.best.Best.{Best}
 use Rattle.result_verdict.specs.declared.best.Trio.{Trio}
 use Rattle.result_verdict.specs.declared.floors.Floors.{Floors}
 use Rattle.result_verdict.specs.Best.{IsBest, AreBest, IsResultOffer, IsResultSheet}
-use Rattle.result_verdict.specs.Floors.{on_places, returned, Wins}
+use Rattle.result_verdict.specs.Floors.{on_places, Wins}
 use Rattle.result_verdict.proofs.Sums.{sum_over-set, sum_over-zeros, AllZip-set, AllZip-zeros}
-use Rattle.result_verdict.proofs.Bets.{gain_home, gain_draw, gain_away, gain_abandoned, net_won, net_lost, net_returned, net_nothing}
+use Rattle.result_verdict.proofs.Bets.{gain_home, gain_draw, gain_away, gain_abandoned, net_as, net_lost, net_returned, net_nothing}
 
 -- a best offer stands within the sheet
 pub within : (offers : List Offer) (s : Selection) (b : Best) → IsBest offers s b → b.place < length offers
@@ -77,34 +77,34 @@ more : (m n : ℕ) → m < n → (nat_lt n m ≡ false) × ((m == n) ≡ false) 
 more m n l = (grind (arith, nat_tests), grind (arith, nat_tests), grind (arith, nat_tests))
 
 -- at a home win
-pub total_home : (offers : List Offer) (t : Trio) (h d a g c : ℕ) → AreBest offers t → c < g → total_net offers (on_places (length offers) t h d a) (Full g c) ≡ pos (returned h t.home) -ℤ pos (h + d + a)
+pub total_home : (offers : List Offer) (t : Trio) (h d a g c : ℕ) → AreBest offers t → c < g → total_net offers (on_places (length offers) t h d a) (Full g c) ≡ pos (paid t.home.offer h (Full 1 0)) -ℤ pos (h + d + a)
 total_home offers t h d a g c best l =
     let tests = less c g l in
-    let nh = net_won t.home.offer h (Full g c) (gain_home t.home.offer g c best.home.backs ∙ rw tests.0 refl) in
+    let nh = net_as t.home.offer h (Full g c) (Full 1 0) (gain_home t.home.offer g c best.home.backs ∙ (rw tests.0 refl ∙ sym (gain_home t.home.offer 1 0 best.home.backs))) in
     let nd = net_lost t.draw.offer d (Full g c) (gain_draw t.draw.offer g c best.draw.backs ∙ rw tests.1 refl) in
     let na = net_lost t.away.offer a (Full g c) (gain_away t.away.offer g c best.away.backs ∙ rw tests.2 refl) in
     let all = total offers t h d a (Full g c) best in
     omega (arith, ints, nh, nd, na, all)
 
 -- at a draw
-pub total_draw : (offers : List Offer) (t : Trio) (h d a g c : ℕ) → AreBest offers t → g ≡ c → total_net offers (on_places (length offers) t h d a) (Full g c) ≡ pos (returned d t.draw) -ℤ pos (h + d + a)
+pub total_draw : (offers : List Offer) (t : Trio) (h d a g c : ℕ) → AreBest offers t → g ≡ c → total_net offers (on_places (length offers) t h d a) (Full g c) ≡ pos (paid t.draw.offer d (Full 0 0)) -ℤ pos (h + d + a)
 total_draw offers t h d a g c best e =
     let lt : nat_lt c g ≡ false = grind (arith, nat_tests) in
     let eq : (g == c) ≡ true = grind (arith, nat_tests) in
     let gt : nat_lt g c ≡ false = grind (arith, nat_tests) in
     let nh = net_lost t.home.offer h (Full g c) (gain_home t.home.offer g c best.home.backs ∙ rw lt refl) in
-    let nd = net_won t.draw.offer d (Full g c) (gain_draw t.draw.offer g c best.draw.backs ∙ rw eq refl) in
+    let nd = net_as t.draw.offer d (Full g c) (Full 0 0) (gain_draw t.draw.offer g c best.draw.backs ∙ (rw eq refl ∙ sym (gain_draw t.draw.offer 0 0 best.draw.backs))) in
     let na = net_lost t.away.offer a (Full g c) (gain_away t.away.offer g c best.away.backs ∙ rw gt refl) in
     let all = total offers t h d a (Full g c) best in
     omega (arith, ints, nh, nd, na, all)
 
 -- at an away win
-pub total_away : (offers : List Offer) (t : Trio) (h d a g c : ℕ) → AreBest offers t → g < c → total_net offers (on_places (length offers) t h d a) (Full g c) ≡ pos (returned a t.away) -ℤ pos (h + d + a)
+pub total_away : (offers : List Offer) (t : Trio) (h d a g c : ℕ) → AreBest offers t → g < c → total_net offers (on_places (length offers) t h d a) (Full g c) ≡ pos (paid t.away.offer a (Full 0 1)) -ℤ pos (h + d + a)
 total_away offers t h d a g c best l =
     let tests = more g c l in
     let nh = net_lost t.home.offer h (Full g c) (gain_home t.home.offer g c best.home.backs ∙ rw tests.0 refl) in
     let nd = net_lost t.draw.offer d (Full g c) (gain_draw t.draw.offer g c best.draw.backs ∙ rw tests.1 refl) in
-    let na = net_won t.away.offer a (Full g c) (gain_away t.away.offer g c best.away.backs ∙ rw tests.2 refl) in
+    let na = net_as t.away.offer a (Full g c) (Full 0 1) (gain_away t.away.offer g c best.away.backs ∙ (rw tests.2 refl ∙ sym (gain_away t.away.offer 0 1 best.away.backs))) in
     let all = total offers t h d a (Full g c) best in
     omega (arith, ints, nh, nd, na, all)
 

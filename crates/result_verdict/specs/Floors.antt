@@ -1,9 +1,9 @@
 use Rattle.std.specs.Prelude.{ℕ, ◌+◌, ◌*◌, ◌/◌, ◌<◌, min, List, length, replicate, slice_set}
 use Rattle.scan_types.specs.declared.offer.Offer.{Offer}
-use Rattle.result_verdict.specs.declared.best.Best.{Best}
+use Rattle.scan_types.specs.declared.outcome.Outcome.TheVariants.{Full}
+use Rattle.settlement_definitions.specs.Gain.{paid}
 use Rattle.result_verdict.specs.declared.best.Trio.{Trio}
 use Rattle.result_verdict.specs.declared.floors.Floors.{Floors}
-use Rattle.result_verdict.specs.Best.{odds_of}
 use Rattle.result_verdict.specs.Weights.{home_weight, draw_weight, away_weight}
 
 -- the stake of a weight where the stake of the binding weight is its limit and stakes are in proportion to
@@ -27,12 +27,8 @@ abbrev pub scaled_floors : List Offer → Trio → List ℕ
 scaled_floors offers trio =
     on_places (length offers) trio (floor_of trio (home_weight trio)) (floor_of trio (draw_weight trio)) (floor_of trio (away_weight trio))
 
--- what comes back of a stake that wins, rounded down
-abbrev pub returned : ℕ → Best → ℕ
-returned stake best = stake * odds_of best / 1000
-
--- each of the three bets returns more than all of them stake
+-- each of the three bets is paid more than all of them stake, at the least score of its result
 pub record Wins (trio : Trio) (stakes : Floors) : Type 0 where
-  pub home : stakes.home + stakes.draw + stakes.away < returned stakes.home trio.home
-  pub draw : stakes.home + stakes.draw + stakes.away < returned stakes.draw trio.draw
-  pub away : stakes.home + stakes.draw + stakes.away < returned stakes.away trio.away
+  pub home : stakes.home + stakes.draw + stakes.away < paid trio.home.offer stakes.home (Full 1 0)
+  pub draw : stakes.home + stakes.draw + stakes.away < paid trio.draw.offer stakes.draw (Full 0 0)
+  pub away : stakes.home + stakes.draw + stakes.away < paid trio.away.offer stakes.away (Full 0 1)

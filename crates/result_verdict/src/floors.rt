@@ -3,8 +3,9 @@ ghost use Rattle.result_verdict.specs.Weights.{home_weight, draw_weight, away_we
 ghost use Rattle.result_verdict.specs.Floors.{floor_of, Wins, on_places};
 
 use crate::best::{Best, Trio};
-use scan_types::{Offer, WantOfMemory};
+use scan_types::{Offer, Outcome, WantOfMemory};
 use std::alloc::Global;
+use void_rules::paid;
 
 /// Whole stakes on the three best offers, in minor units.
 #[derive(Clone, Copy)]
@@ -34,7 +35,8 @@ impl Floors {
         }
     }
 
-    /// Whether the bets together return more than is staked, whichever of the three wins.
+    /// Whether each bet is paid more than all three stake, where its result comes. One score stands for
+    /// each result, as a bet on the result is paid the same at every score of that result.
     pub fn wins(&self, trio: &Trio) -> bool
         requires home { self.now.home ≤ trio.now.home.offer.limit }
         requires draw { self.now.draw ≤ trio.now.draw.offer.limit }
@@ -42,9 +44,9 @@ impl Floors {
         ensures { IsTrue result ↔ Wins trio.now self.now }
     {
         let staked = u64::from(self.home) + u64::from(self.draw) + u64::from(self.away);
-        staked < returned(self.home, &trio.home)
-            && staked < returned(self.draw, &trio.draw)
-            && staked < returned(self.away, &trio.away)
+        staked < paid(&trio.home.offer, self.home, Outcome::Full(1, 0))
+            && staked < paid(&trio.draw.offer, self.draw, Outcome::Full(0, 0))
+            && staked < paid(&trio.away.offer, self.away, Outcome::Full(0, 1))
     }
 
     /// The stakes of all offers of the sheet: these three, and nothing on the others.
@@ -81,11 +83,4 @@ fn stake_for(most: u64, best: &Best) -> u32
     ensures within { result ≤ best.now.offer.limit }
 {
     (most / u64::from(best.offer.odds.thousandths)) as u32
-}
-
-/// What comes back of a stake that wins, rounded down.
-fn returned(stake: u32, best: &Best) -> u64
-    ensures { result ≡ stake * best.now.offer.odds.thousandths / 1000 }
-{
-    u64::from(stake) * u64::from(best.offer.odds.thousandths) / 1000
 }
