@@ -1,4 +1,5 @@
-use Rattle.std.specs.Prelude.{ℕ, ◌≡◌, ◌≤◌, ◌⊎◌, List, length, All}
+use Rattle.std.specs.Prelude.{ℕ, ◌≡◌, ◌≤◌, ◌⊎◌, List, length, All, Bool, nat_le, ◌==◌, ◌&&◌, ◌||◌}
+use Rattle.std.specs.List.{list_all}
 
 -- an ASCII letter
 abbrev pub IsLetter : ℕ → Type 0
@@ -21,3 +22,12 @@ pub record IsNameText (text : List ℕ) : Type 0 where
   pub some : 1 ≤ length text
   pub few : length text ≤ 32
   pub bytes : All IsNameByte text
+
+-- whether the byte is a letter, a digit, `_`, `-` or `.`
+abbrev pub is_name_byte : ℕ → Bool
+is_name_byte b =
+    ((nat_le 65 b && nat_le b 90) || (nat_le 97 b && nat_le b 122)) || ((nat_le 48 b && nat_le b 57) || (b == 95 || (b == 45 || b == 46)))
+
+-- whether the text is a name
+abbrev pub is_name_text : List ℕ → Bool
+is_name_text text = nat_le 1 (length text) && (nat_le (length text) 32 && list_all is_name_byte text)

@@ -1,4 +1,4 @@
-use Rattle.std.specs.Prelude.{ℕ, ◌-◌, ◌<◌, ◌≤◌, List, length, AllPairs, IfSome, slice_get}
+use Rattle.std.specs.Prelude.{◌-◌, ◌<◌, ◌≤◌, List, length, AllPairs, IfSome, slice_get}
 use Rattle.scan_types.specs.declared.offer.Offer.{Offer}
 use Rattle.scan_types.specs.declared.limits.TheConstants.{MOST_OFFERS}
 use Rattle.scan_types.specs.Offers.{IsBelow}

@@ -1,7 +1,8 @@
-ghost use Rattle.std.specs.Prelude.{◌≡◌, IfSome, IsSome, ◌↔◌, IsTrue};
-ghost use Rattle.scan_types.specs.Names.{IsLetter, IsMark, IsNameByte, IsNameText};
+ghost use Rattle.std.specs.Prelude.{◌≡◌, IfSome, IsSome, is_some, ◌↔◌, IsTrue};
+ghost use Rattle.scan_types.specs.Names.{IsLetter, IsMark, IsNameByte, IsNameText, is_name_text};
 
 use std::cmp::Ordering;
+use std::hash::{Hash, Hasher};
 use std::marker::Model;
 
 /// A book's or a match's name: 1 to 32 bytes out of letters, digits, `_`, `-` and `.`.
@@ -60,6 +61,7 @@ impl Name {
     pub fn read(text: &[u8]) -> Option<Name>
         ensures value { IfSome result (λ name. name ≡ text.now) }
         ensures form { IsSome result ↔ IsNameText text.now }
+        ensures test { is_some result ≡ is_name_text text.now }
     {
         let len = text.len();
         if len == 0 || len > 32 || !text.iter().all(|byte| is_name_byte(*byte)) {
@@ -76,6 +78,19 @@ impl Name {
         ensures form { IsNameText self.now }
     {
         &self.bytes[..self.len]
+    }
+}
+
+impl Hash for Name {
+    ghost use Rattle.std.specs.Hash as fed;
+    ghost use Rattle.std.proofs.Common.{rules};
+
+    ghost hash_input = { fed.slice fed.u8 };
+
+    ghost respects_eq = { Prim.search rules };
+
+    fn hash<H: Hasher>(&self, state: &mut H) {
+        self.as_bytes().hash(state);
     }
 }
 

@@ -1,0 +1,5 @@
+pub mod Lines
+pub mod Numbers
+pub mod Plain
+pub mod Views
+pub mod Answered

@@ -1,0 +1,20 @@
+use scan_types::{Name, Odds, Selection};
+
+/// What a line does to the offer that it names.
+#[derive(Clone, Copy, Debug, PartialEq, Eq)]
+pub enum Change {
+    /// Offers these odds, up to a stake limit of 1 to 100,000,000 minor units.
+    Quote(Odds, u32),
+    /// Withdraws the offer.
+    Withdraw,
+}
+
+/// A line of a feed that was accepted.
+#[derive(Clone, Copy, Debug, PartialEq, Eq)]
+pub struct Accepted {
+    /// The number of the line, from 2: line 1 is the header.
+    pub line: u32,
+    pub match_name: Name,
+    pub selection: Selection,
+    pub change: Change,
+}

@@ -1,0 +1,8 @@
+use scan_types::{Name, VoidRule};
+
+/// The first line of a feed: whose quotes these are, and how the book settles abandoned matches.
+#[derive(Clone, Copy, Debug, PartialEq, Eq)]
+pub struct Header {
+    pub book: Name,
+    pub rule: VoidRule,
+}

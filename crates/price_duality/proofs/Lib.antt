@@ -1,0 +1,4 @@
+pub mod Products
+pub mod Averages
+pub mod Roundings
+pub mod Verdict

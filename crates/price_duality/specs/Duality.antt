@@ -1,0 +1,26 @@
+use Rattle.std.specs.Prelude.{ℕ, pos, ◌≤◌, ◌*◌, ◌*ℤ◌, ◌≤ℤ◌, List}
+use Rattle.scan_types.specs.declared.offer.Offer.{Offer}
+use Rattle.scan_types.specs.declared.outcome.Outcome.{Outcome}
+use Rattle.settlement_definitions.specs.Arbitrage.{need, total_gain, IsArbitrage, ReachesUnit}
+use Rattle.settlement_definitions.specs.Verdicts.{IsRightCoherent}
+
+-- stakes in fractions, the parts over the divisor, that win at least one minor unit at every final score
+-- and lose nothing at any abandonment, whatever the limits are
+pub record WinsUnit (offers : List Offer) (divisor : ℕ) (parts : List ℕ) : Type 0 where
+  pub divides : 1 ≤ divisor
+  pub wins : (x : Outcome) → (pos (2000 * divisor) *ℤ need x) ≤ℤ total_gain offers parts x
+
+-- weights under which no offer gains on average rule such stakes out
+abbrev pub RulesOutUnit : Type 0
+RulesOutUnit =
+    (offers : List Offer) (measure : List (Outcome × ℕ)) (divisor : ℕ) (parts : List ℕ) → IsRightCoherent offers measure → ¬ WinsUnit offers divisor parts
+
+-- among them those within the limits
+abbrev pub RulesOutReach : Type 0
+RulesOutReach =
+    (offers : List Offer) (measure : List (Outcome × ℕ)) (divisor : ℕ) (parts : List ℕ) → IsRightCoherent offers measure → ¬ ReachesUnit offers divisor parts
+
+-- and every arbitrage in whole stakes
+abbrev pub RulesOutArbitrage : Type 0
+RulesOutArbitrage =
+    (offers : List Offer) (measure : List (Outcome × ℕ)) (stakes : List ℕ) → IsRightCoherent offers measure → ¬ IsArbitrage offers stakes

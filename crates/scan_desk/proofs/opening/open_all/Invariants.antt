@@ -1,0 +1,18 @@
+use Rattle.std.proofs.Common.{◌≡◌, ◌≤◌, map, take, string_bytes}
+use Rattle.std.specs.VecDeque.{deque_len}
+use Rattle.scan_desk.specs.Told.{told_bytes}
+use Rattle.scan_desk.specs.Opening.{AreOpened}
+use Rattle.desk_io.specs.Opener.{OpenedUnder}
+use Rattle.scan_desk.proofs.opening.open_all.Given as goal
+
+-- the sources so far are those of the first names, and what is told now is what is left of what was told
+abbrev pub invariant-loop-number : goal.invariant-loop-number
+invariant-loop-number g l =
+    let names = map string_bytes l.names in
+    let told_first = g.O.Opener.told l.fn.opener in
+    record {
+      count : deque_len l.sources ≡ l.number;
+      faults : g.O.Opener.faults l.fn.opener ≤ g.O.Opener.faults l.opener;
+      told : OpenedUnder (take l.number names) told_first (g.O.Opener.told l.opener);
+      opened : AreOpened g.O.S.Source.left g.O.S.Source.faults (told_bytes told_first names) 0 l.sources.items;
+    }

@@ -1,0 +1,57 @@
+use Rattle.std.proofs.Common.{ℕ, List, Option, Result, ◌≡◌, ◌≤◌, ◌<◌, ◌+◌, length, map, refl, sym, ap, ◌∙◌, subst, arith, Some, None, deque_len, string_bytes, Global, inl, inr}
+use Rattle.std.proofs.lemmas.List.{length-map}
+use Rattle.scan_desk.specs.Told.{told_bytes}
+use Rattle.scan_desk.specs.Desk.{IsCourseOfRun}
+use Rattle.scan_desk.proofs.ReadAll.{untold}
+use Rattle.scan_desk.proofs.Course.{few_names, course_of_names, course_unopened, written_kept}
+use Rattle.scan_desk.proofs.program.run.Goals as goal
+
+pub open_all-requires : goal.open_all-requires
+open_all-requires g c =
+    let names = map (string_bytes {Z = Global}) c.in-Some.names.now in
+    let few = few_names (map (string_bytes {Z = Global}) c.args.words.now) names (sym c.in-Some.ensures) in
+    omega (arith, few.1, length-map c.in-Some.names.now (string_bytes {Z = Global}))
+
+pub read_and_write-requires-clause-some : goal.read_and_write-requires-clause-some
+read_and_write-requires-clause-some g c =
+    let names = map (string_bytes {Z = Global}) c.in-Some.names.now in
+    let few = few_names (map (string_bytes {Z = Global}) c.args.words.now) names (sym c.in-Some.ensures) in
+    omega (arith, few.0, c.in-Ok.ensures.each, length-map c.in-Some.names.now (string_bytes {Z = Global}))
+
+pub read_and_write-requires-clause-few : goal.read_and_write-requires-clause-few
+read_and_write-requires-clause-few g c =
+    let names = map (string_bytes {Z = Global}) c.in-Some.names.now in
+    let few = few_names (map (string_bytes {Z = Global}) c.args.words.now) names (sym c.in-Some.ensures) in
+    omega (arith, few.1, c.in-Ok.ensures.each, length-map c.in-Some.names.now (string_bytes {Z = Global}))
+
+pub read_and_write-requires-clause-opened : goal.read_and_write-requires-clause-opened
+read_and_write-requires-clause-opened g c =
+    let told = told_bytes (g.O.Opener.told c.args.opener.now) (map (string_bytes {Z = Global}) c.in-Some.names.now) in
+    untold g.O.S.Source.left g.O.S.Source.faults told 0 c.in-Ok.sources.items c.in-Ok.ensures.opened
+
+pub returns-in-Err-Feed : goal.returns-in-Err-Feed
+returns-in-Err-Feed g c =
+    let S = g.O.S.Source in
+    let K = g.K.Sink in
+    let words = map (string_bytes {Z = Global}) c.args.words.now in
+    let names = map (string_bytes {Z = Global}) c.in-Some.names.now in
+    let before = c.args.sink.now in
+    let after = c.write_due.new.sink in
+    let cause = rw c.in-Err-Feed.field-0-is at c.in-Err-Feed.ensures.failed in
+    course_unopened S.left S.faults (g.O.Opener.told c.args.opener.now) words names (g.O.Opener.faults c.args.opener.now) (g.O.Opener.faults c.open_all.new.opener) c.in-Err-Feed.feed c.new-in-Err-Feed.result.items c.write_due.result c.cannot_be_opened.result
+    (K.written before) (K.written after) (K.faults before) (K.faults after) (sym c.in-Some.ensures) (omega (arith, cause, length-map c.in-Some.names.now (string_bytes {Z = Global})), cause.1) c.new-in-Err-Feed.ensures.items c.cannot_be_opened.ensures
+    (written_kept c.cannot_be_opened.result 3 c.write_due.result K.written before after (K.faults before) (K.faults after) c.write_due.ensures)
+
+pub returns-in-Ok : goal.returns-in-Ok
+returns-in-Ok g c =
+    let S = g.O.S.Source in
+    let K = g.K.Sink in
+    let words = map (string_bytes {Z = Global}) c.args.words.now in
+    let names = map (string_bytes {Z = Global}) c.in-Some.names.now in
+    let told = g.O.Opener.told c.args.opener.now in
+    let before = c.args.sink.now in
+    let after = c.read_and_write.new.sink in
+    let count : deque_len c.in-Ok.sources ≡ length names = omega (arith, c.in-Ok.ensures.each, length-map c.in-Some.names.now (string_bytes {Z = Global})) in
+    let P : ℕ → Type 0 = λ n. IsCourseOfRun S.left S.faults (told_bytes told names) n c.read_and_write.result.feeds.items c.read_and_write.result.status (K.written before) (K.written after) (K.faults before) (K.faults after) in
+    course_of_names S.left S.faults told words names (g.O.Opener.faults c.args.opener.now) (g.O.Opener.faults c.open_all.new.opener) c.read_and_write.result.feeds.items c.read_and_write.result.status
+    (K.written before) (K.written after) (K.faults before) (K.faults after) (sym c.in-Some.ensures) (subst P count (c.read_and_write.ensures (told_bytes told names) c.in-Ok.ensures.opened))

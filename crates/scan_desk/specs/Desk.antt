@@ -1,0 +1,104 @@
+-- What a run of the desk does.
+use Rattle.std.specs.Prelude.{ℕ, ◌≡◌, ◌≢◌, ◌<◌, ◌+◌, ◌-◌, ◌⊎◌, List, [], ◌∷◌, ◌++◌, length, map, take, Option, None, Some, All, IsSomeAnd, slice_get}
+use Rattle.std.specs.Io.KnownBytes.{Appends, Keeps}
+use Rattle.desk_io.specs.Faults.{Rose}
+use Rattle.desk_io.specs.Sink.{AppendsPrefix}
+use Rattle.report_definitions.specs.declared.match_part.MatchPart.{MatchPart}
+use Rattle.report_definitions.specs.Standing.{FeedPart}
+use Rattle.report_definitions.specs.Report.{report_text, AreMatchesOf}
+use Rattle.result_verdict.specs.Findings.{IsFirstFinding, IsRightFirst}
+use Rattle.scan_desk.specs.declared.feed_end.FeedEnd.{FeedEnd}
+use Rattle.scan_desk.specs.declared.feed_end.FeedStop.{FeedStop}
+use Rattle.scan_desk.specs.declared.feed_end.FeedStop.TheVariants as stops
+use Rattle.scan_desk.specs.Words.{named_feeds}
+use Rattle.scan_desk.specs.Texts.{no_command, cannot_be_opened, cannot_be_read, is_not_built}
+use Rattle.scan_desk.specs.Told.{told_bytes}
+use Rattle.scan_desk.specs.Feeds.{part_of}
+use Rattle.scan_desk.specs.Readings.{AreReadSo, StopsAtLast}
+
+-- pivots of a run of a program, where no words say otherwise
+abbrev pub default_pivots : ℕ
+default_pivots = 4096
+
+-- the report of these feeds: each match that a feed quoted has the sheet of what stands on it and the finding of that sheet, and each
+-- verdict is right at every final score and every abandonment
+pub record IsReport (feeds : List FeedPart) (report : List ℕ) : Type 0 where
+  pub matches : List MatchPart
+  pub quoted : AreMatchesOf feeds matches
+  pub found : All (λ part. IsFirstFinding part.sheet part.finding) matches
+  pub right : All (λ part. IsRightFirst part.sheet part.finding) matches
+  pub text : report ≡ report_text default_pivots feeds matches
+
+-- what a run has to write, and the status that goes with it
+pub record Due : Type 0 where
+  pub status : ℕ
+  pub text : List ℕ
+
+-- the words are no command
+pub record IsNoCommand {S : Type 0} (words : List (List ℕ)) (ends : List (FeedEnd S)) (due : Due) : Type 0 where
+  pub words_are : named_feeds words ≡ None
+  pub none_begun : ends ≡ []
+  pub due_is : due ≡ record { status = 2; text = no_command }
+
+-- a feed could not be opened, and the opener's count of faults rose
+pub record IsNotOpened {S : Type 0} (names : List (List ℕ)) (faults_before faults_after : ℕ) (ends : List (FeedEnd S)) (due : Due) : Type 0 where
+  pub feed : ℕ
+  pub is_named : feed < length names
+  pub fault : Rose faults_before faults_after
+  pub none_begun : ends ≡ []
+  pub due_is : due ≡ record { status = 3; text = cannot_be_opened feed }
+
+-- what is due after feeds with these ends and texts, by how the last of them stopped: the report, an error line, or nothing
+abbrev pub IsDueAfter : {S : Type 0} → FeedStop → List (FeedEnd S) → List (List ℕ) → Due → Type 0
+IsDueAfter stops.End ends texts due = (due.status ≡ 0) × IsReport (map part_of texts) due.text
+IsDueAfter stops.ReadFault ends texts due = due ≡ record { status = 4; text = cannot_be_read (length ends - 1) }
+IsDueAfter stops.NotBuilt ends texts due =
+    IsSomeAnd (slice_get ends (length ends - 1)) (λ end. due ≡ record { status = 11; text = is_not_built (length ends - 1) (end.lines + 1) })
+IsDueAfter stops.NoMemory ends texts due = ⊥
+
+-- so many feeds were opened, and those of them that were begun were read so: all of them where the last stopped at its end
+pub record IsRun {S : Type 0} (left : S → Option (List ℕ)) (faults : S → ℕ) (told : ℕ → Option (List ℕ)) (count : ℕ) (ends : List (FeedEnd S)) (due : Due) : Type 0 where
+  pub texts : List (List ℕ)
+  pub read : AreReadSo left faults told [] 0 ends texts
+  pub stop : FeedStop
+  pub stop_is : StopsAtLast stop ends
+  pub all : stop ≡ stops.End → length ends ≡ count
+  pub due_is : IsDueAfter stop ends texts due
+
+-- what is due for these words, with what an opener told and what its count of faults did
+abbrev pub IsDue : {S : Type 0} → (S → Option (List ℕ)) → (S → ℕ) → (List ℕ → Option (List (List ℕ))) → List (List ℕ) → ℕ → ℕ → List (FeedEnd S) → Due → Type 0
+IsDue left faults told words faults_before faults_after ends due =
+    IsNoCommand words ends due ⊎ ((names : List (List ℕ)) × (named_feeds words ≡ Some names)
+    × (IsNotOpened names faults_before faults_after ends due ⊎ IsRun left faults (told_bytes told names) (length names) ends due))
+
+-- what was due was written; or a write failed after a part of it, and the status is 5
+abbrev pub IsWritten : Due → ℕ → Option (List ℕ) → Option (List ℕ) → ℕ → ℕ → Type 0
+IsWritten due status old new faults_before faults_after =
+    ((status ≡ due.status) × Appends old new due.text) ⊎ ((status ≡ 5) × AppendsPrefix old new due.text × Rose faults_before faults_after)
+
+-- what a run does: what is due is written; or memory was wanting, the status is 7, and nothing is written
+abbrev pub IsCourse : {S : Type 0} → (S → Option (List ℕ)) → (S → ℕ) → (List ℕ → Option (List (List ℕ))) → List (List ℕ) → ℕ → ℕ → List (FeedEnd S) → ℕ → Option (List ℕ) → Option (List ℕ) → ℕ → ℕ → Type 0
+IsCourse left faults told words opener_before opener_after ends status old new sink_before sink_after =
+    ((due : Due) × IsDue left faults told words opener_before opener_after ends due × IsWritten due status old new sink_before sink_after)
+    ⊎ ((status ≡ 7) × Keeps old new)
+
+-- the same after the feeds were opened
+abbrev pub IsCourseOfRun : {S : Type 0} → (S → Option (List ℕ)) → (S → ℕ) → (ℕ → Option (List ℕ)) → ℕ → List (FeedEnd S) → ℕ → Option (List ℕ) → Option (List ℕ) → ℕ → ℕ → Type 0
+IsCourseOfRun left faults told count ends status old new sink_before sink_after =
+    ((due : Due) × IsRun left faults told count ends due × IsWritten due status old new sink_before sink_after) ⊎ ((status ≡ 7) × Keeps old new)
+
+-- every named feed was read to its end, and the sink got the report of what was read
+pub record IsReported {S : Type 0} (left : S → Option (List ℕ)) (faults : S → ℕ) (told : List ℕ → Option (List (List ℕ))) (words : List (List ℕ)) (ends : List (FeedEnd S)) (old new : Option (List ℕ)) : Type 0 where
+  pub names : List (List ℕ)
+  pub named : named_feeds words ≡ Some names
+  pub all_read : length ends ≡ length names
+  pub ended : StopsAtLast stops.End ends
+  pub texts : List (List ℕ)
+  pub read : AreReadSo left faults (told_bytes told names) [] 0 ends texts
+  pub report : List ℕ
+  pub report_is : IsReport (map part_of texts) report
+  pub written : Appends old new report
+
+-- the status is this one, or gives way to a failed write or to want of memory
+abbrev pub IsOrYields : ℕ → ℕ → Type 0
+IsOrYields due status = (status ≡ due) ⊎ ((status ≡ 5) ⊎ (status ≡ 7))

@@ -1,0 +1,26 @@
+use feed_definitions::Header;
+
+/// How the reading of a feed ended.
+#[derive(Clone, Copy, Debug, PartialEq, Eq)]
+pub enum FeedStop {
+    /// It was read to its end.
+    End,
+    /// A read failed.
+    ReadFault,
+    /// There was no memory to go on.
+    NoMemory,
+    /// A line is not of the form that is built.
+    NotBuilt,
+}
+
+/// A feed that was begun, as it was left.
+#[derive(Drop)]
+pub struct FeedEnd<S: Drop> {
+    /// The number of the feed, from 0, in the order of the words.
+    pub feed: u8,
+    pub header: Option<Header>,
+    /// How many lines were answered, the header included.
+    pub lines: u32,
+    pub stop: FeedStop,
+    pub source: S,
+}

@@ -1,0 +1,117 @@
+//! The top call: everything that the program does.
+
+ghost use Rattle.std.specs.Prelude.{ℕ, ◌≡◌, ◌<◌, ◌≤◌, List, Option, map, string_bytes};
+ghost use Rattle.std.specs.VecDeque.{deque_len};
+ghost use Rattle.scan_desk.specs.Opening.{AreOpened};
+ghost use Rattle.std.specs.Io.KnownBytes.{Keeps};
+ghost use Rattle.desk_io.specs.Faults.{Rose};
+ghost use Rattle.scan_desk.specs.Words.{named_feeds};
+ghost use Rattle.scan_desk.specs.Readings.{StopsAtLast};
+ghost use Rattle.scan_desk.specs.Desk.{IsCourse, IsCourseOfRun, IsReported, IsOrYields};
+
+use crate::ending::due;
+use crate::feed_end::{FeedEnd, FeedStop};
+use crate::opening::{NotOpened, open_all};
+use crate::readings::{Readings, read_all};
+use crate::texts::cannot_be_opened;
+use crate::words::named_feeds;
+use crate::writing::{WANT_OF_MEMORY, write_due, write_text};
+use desk_io::{Opener, Sink, Source};
+use std::alloc::Global;
+use std::collections::VecDeque;
+
+/// How a run ended.
+#[derive(Drop)]
+pub struct DeskEnd<S: Drop> {
+    /// The exit status: 0 done, 2 no command, 3 not opened, 4 not read, 5 not written, 7 want of memory, 11 not built.
+    pub status: u8,
+    /// The ends of the feeds that were begun, in order.
+    pub feeds: Vec<FeedEnd<S>>,
+}
+
+/// Reads the feeds of these sources, and writes what is due.
+fn read_and_write<S: Source + Drop, K: Sink>(
+    alloc: Global,
+    sources: VecDeque<S>,
+    sink: &mut K,
+) -> DeskEnd<S>
+    requires some { 0 < deque_len sources }
+    requires few { deque_len sources ≤ 8 }
+    requires opened { AreOpened S.left S.faults (λ _. None) 0 sources.items }
+    ensures { (told : ℕ → Option (List ℕ)) → AreOpened S.left S.faults told 0 sources.items →
+        IsCourseOfRun S.left S.faults told (deque_len sources) result.feeds.items result.status (K.written sink.old) (K.written sink.new) (K.faults sink.old) (K.faults sink.new) }
+{
+    match read_all(alloc, sources) {
+        Err(_) => DeskEnd {
+            status: WANT_OF_MEMORY,
+            feeds: Vec::new(alloc),
+        },
+        Ok(readings) => {
+            let Readings { ends, feeds, stop } = readings;
+            let (status, text) = due(alloc, &ends, &feeds, stop);
+            let status = write_due(sink, status, &text);
+            DeskEnd {
+                status,
+                feeds: ends,
+            }
+        }
+    }
+}
+
+/// What `desk` does, with its course alone.
+fn run<O: Opener, K: Sink>(
+    alloc: Global,
+    words: &[String],
+    opener: &mut O,
+    sink: &mut K,
+) -> DeskEnd<O::S>
+    ensures { IsCourse O.S.left O.S.faults (O.told opener.old) (map string_bytes words.now) (O.faults opener.old) (O.faults opener.new)
+        result.feeds.items result.status (K.written sink.old) (K.written sink.new) (K.faults sink.old) (K.faults sink.new) }
+{
+    let Some(names) = named_feeds(words) else {
+        return DeskEnd {
+            status: write_text(sink, 2, b"error: the words are no command\n"),
+            feeds: Vec::new(alloc),
+        };
+    };
+    match open_all(alloc, names, opener) {
+        Err(NotOpened::Feed(feed)) => DeskEnd {
+            status: write_due(sink, 3, &cannot_be_opened(alloc, feed)),
+            feeds: Vec::new(alloc),
+        },
+        Err(NotOpened::WantOfMemory) => DeskEnd {
+            status: WANT_OF_MEMORY,
+            feeds: Vec::new(alloc),
+        },
+        Ok(sources) => read_and_write(alloc, sources, sink),
+    }
+}
+
+/// Runs the command that the words name: `once FEED` or `once FEED FEED` reads the feeds in order and writes their report.
+pub fn desk<O: Opener, K: Sink>(
+    alloc: Global,
+    words: &[String],
+    opener: &mut O,
+    sink: &mut K,
+) -> DeskEnd<O::S>
+    // What a run does, whole: what is due for these words and feeds, and how it was written.
+    ensures course { IsCourse O.S.left O.S.faults (O.told opener.old) (map string_bytes words.now) (O.faults opener.old) (O.faults opener.new)
+        result.feeds.items result.status (K.written sink.old) (K.written sink.new) (K.faults sink.old) (K.faults sink.new) }
+
+    // Status 0 comes only where each named feed was read to its end; the sink then got the report of what the sources gave.
+    ensures done { result.status ≡ 0 →
+        IsReported O.S.left O.S.faults (O.told opener.old) (map string_bytes words.now) result.feeds.items (K.written sink.old) (K.written sink.new) }
+
+    // Each other status has its cause; a cause has its status, unless a write fails or memory is wanting.
+    ensures no_command { result.status ≡ 2 → named_feeds (map string_bytes words.now) ≡ None }
+    ensures no_command_due { named_feeds (map string_bytes words.now) ≡ None → IsOrYields 2 result.status }
+    ensures not_opened { result.status ≡ 3 → Rose (O.faults opener.old) (O.faults opener.new) }
+    ensures not_read { result.status ≡ 4 → StopsAtLast FeedStop.ReadFault result.feeds.items }
+    ensures not_read_due { StopsAtLast FeedStop.ReadFault result.feeds.items → IsOrYields 4 result.status }
+    ensures not_written { result.status ≡ 5 → Rose (K.faults sink.old) (K.faults sink.new) }
+    ensures no_memory { result.status ≡ 7 → Keeps (K.written sink.old) (K.written sink.new) }
+    ensures not_built { result.status ≡ 11 → StopsAtLast FeedStop.NotBuilt result.feeds.items }
+    ensures not_built_due { StopsAtLast FeedStop.NotBuilt result.feeds.items → IsOrYields 11 result.status }
+{
+    run(alloc, words, opener, sink)
+}

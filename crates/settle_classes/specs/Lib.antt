@@ -1,0 +1,4 @@
+pub mod StandIns
+pub mod Classes
+pub mod Rows
+pub mod Laws
