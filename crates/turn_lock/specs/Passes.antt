@@ -1,8 +1,9 @@
 -- What clauses say of a lock and of its passes.
-use Rattle.std.specs.Prelude.{◌≡◌, ℕ, List, [], ◌∷◌, ◌++◌, map, Some}
+use Rattle.std.specs.Prelude.{◌≡◌, ℕ, ◌+◌, List, [], ◌∷◌, ◌++◌, map, Some}
 use Rattle.atomic_table.specs.Seated.{TableId}
 use Rattle.turn_lock.specs.declared.rule.Stage.TheVariants.{Away}
 use Rattle.turn_lock.specs.declared.rule.View.{View}
+use Rattle.turn_lock.specs.Calls.{longer}
 use Rattle.turn_lock.specs.Rule.{has_turn}
 use Rattle.turn_lock.specs.declared.lock.TurnLock.{TurnLock}
 use Rattle.turn_lock.specs.declared.pass.Pass.{Pass}
@@ -30,6 +31,14 @@ fixed_part fixed lock = fixed lock.table.shared.key.value
 -- the entry was added, and is the pass's own
 abbrev pub with_entry : {E : Type 0} → Known E → E → Known E
 with_entry k e = record k { seen = k.seen ++ e ∷ []; own = k.own ++ e ∷ [] }
+
+-- the root has given one number more
+abbrev pub after_split : {E : Type 0} → Known E → Known E
+after_split k = record k { given = k.given + 1 }
+
+-- the root keeps the other's number and entries, and has seen the longer of the two lists
+abbrev pub after_join : {E : Type 0} → Known E → Known E → Known E
+after_join k other = record k { seen = longer k.seen other.seen; joined = k.joined ++ (other.number, other.own) ∷ [] }
 
 -- which lock it is
 abbrev pub lock_id : {S E F : Type 0} → TurnLock S E F → TableId

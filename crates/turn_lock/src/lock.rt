@@ -24,11 +24,11 @@ pub struct TurnLock<S: Kept> {
 }
 
 impl<S: Kept> TurnLock<S> {
-    ghost use Rattle.turn_lock.specs.Calls.{calls_of, kept_of, longer};
-    ghost use Rattle.turn_lock.specs.Passes.{known, fresh, fixed_part, IsPassOf};
-    ghost use Rattle.turn_lock.specs.Turns.{knows, in_hand, IsTurn};
+    ghost use Rattle.turn_lock.specs.Calls.{calls_of, kept_of};
+    ghost use Rattle.turn_lock.specs.Passes.{known, fresh, after_split, after_join, fixed_part, IsPassOf};
+    ghost use Rattle.turn_lock.specs.Turns.{knows, in_hand, state_of, lock_of, pass_name, IsTurn};
 
-    /// A lock round a state whose list is empty, and its root pass. This call alone takes memory.
+    /// A lock round a state whose list is empty, and its root pass, whose number is 0. This call alone takes memory.
     pub fn new(alloc: Global, state: S) -> Result<(TurnLock<S>, Pass<S>), WantOfMemory>
         requires { S.entries state ≡ [] }
         ensures of { IfOk result (λ r. IsPassOf r.0 r.1) }
@@ -51,13 +51,13 @@ impl<S: Kept> TurnLock<S> {
         }
     }
 
-    /// A pass with the next number, for another thread.
+    /// A pass with the next number, for another thread. It has seen what the root has. There are at most 256 passes, the root among them.
     pub fn split(&self, root: &mut Pass<S>) -> Pass<S>
         requires of { IsPassOf self.now root.old }
         requires root { (known root.old).number ≡ 0 }
         requires few { (known root.old).given < 256 }
         ensures of { IsPassOf self.now root.new × IsPassOf self.now result }
-        ensures root { known root.new ≡ record (known root.old) { given = (known root.old).given + 1 } }
+        ensures root { known root.new ≡ after_split (known root.old) }
         ensures new { known result ≡ fresh (known root.old).given 0 (known root.old).seen }
     {
         let number = root.given;
@@ -70,13 +70,14 @@ impl<S: Kept> TurnLock<S> {
         }
     }
 
-    /// Takes in a pass that `split` gave: its number, its entries, and what it had seen.
+    /// Takes in a pass that `split` gave. The root keeps its number and its entries, and has then seen the longer of the two lists.
     pub fn join(&self, root: &mut Pass<S>, other: Pass<S>)
         requires of { IsPassOf self.now root.old × IsPassOf self.now other }
         requires root { (known root.old).number ≡ 0 }
         ensures of { IsPassOf self.now root.new }
-        ensures root { known root.new ≡ record (known root.old) { seen = longer (known root.old).seen (known other).seen; joined = (known root.old).joined ++ ((known other).number, (known other).own) ∷ [] } }
-        ensures seen { IsPrefix (known root.old).seen (known root.new).seen × IsPrefix (known other).seen (known root.new).seen }
+        ensures root { known root.new ≡ after_join (known root.old) (known other) }
+        ensures seen { IsPrefix (known root.old).seen (known root.new).seen }
+        ensures told { IsPrefix (known other).seen (known root.new).seen }
     {
         let Pass {
             seat,
@@ -87,13 +88,15 @@ impl<S: Kept> TurnLock<S> {
         self.table.shared.load::<Compare>(&mut root.seat, TICKET);
     }
 
-    /// Waits for the turn, and gives the state. The turn has to be ended by `leave`.
+    /// Waits for the turn, and gives the state. The list has as a beginning all that the pass had seen, and the entries with its number are its own.
+    /// The turn has to be ended by `leave`. It may wait for ever: nothing is claimed of how long.
     pub fn enter<'a, R: Wait>(&'a self, rt: &R, pass: &'a mut Pass<S>) -> Turn<'a, S>
         requires { IsPassOf self.now pass.old }
-        ensures turn { IsTurn result × (result.lock.now ≡ self.now) × (result.pass.ghost_name ≡ pass.entry.ghost_name) }
+        ensures turn { IsTurn result × (lock_of result ≡ self.now) }
+        ensures pass { pass_name result ≡ pass.entry.ghost_name }
         ensures seen { IsPrefix (known pass.old).seen (in_hand result) }
         ensures own { calls_of S.caller (known pass.old).number (in_hand result) ≡ (known pass.old).own }
-        ensures fixed { S.fixed result.state ≡ fixed_part S.fixed self.now }
+        ensures fixed { S.fixed (state_of result) ≡ fixed_part S.fixed self.now }
         ensures knows { knows result ≡ record (known pass.old) { seen = in_hand result } }
     {
         let state = self.take_state(rt, pass);
@@ -105,6 +108,7 @@ impl<S: Kept> TurnLock<S> {
     }
 
     /// Takes the state out of the lock, once every pass that was split off was joined.
+    /// The entries of each number are those that the root keeps under it, and there are no others.
     pub fn close(self, root: Pass<S>) -> S
         requires of { IsPassOf self root }
         requires root { (known root).number ≡ 0 }
