@@ -11,7 +11,7 @@ use Rattle.turn_lock.specs.Calls.{calls_of, kept_of}
 use Rattle.turn_lock.specs.Rule.{has_turn, root_view, Ruled}
 use Rattle.turn_lock.specs.Steps.{after_join, passed_on, compared, committed, Enters, looked}
 use Rattle.turn_lock.proofs.Lists.{one_out}
-use Rattle.turn_lock.proofs.Keeps.{adds, passes_on, compares, begins, ends}
+use Rattle.turn_lock.proofs.Keeps.{looks, adds, passes_on, compares, begins, ends}
 
 -- the pass has the ticket of this number, and else knows and holds what it did
 abbrev pub HasDrawn : {S E F : Type 0} → Me (Option S) (View E F) → ℕ → Me (Option S) (View E F) → Type 0
@@ -44,6 +44,9 @@ module _ {S E F : Type 0} (entries : S → List E) (fixed : S → F) (caller : E
       (t, subst (λ (x : Sat). Enters entries fixed caller x t now') drawn.2 enters)
 
   module _ (part : F) (slots id : ℕ) where
+    pub looks_drawn : (m now : Sat) (n : ℕ) → HasDrawn m n now → Allows (Rule part) slots id now 1 (λ k. k) (looked entries fixed caller (step slots 1 0 0 none) now)
+    looks_drawn m now n drawn = looks entries fixed caller part slots id now.0 now.1 drawn.0 (ap (λ (x : Sat). x.0.stage) drawn.2)
+
     pub adds_one : (me : Sat) (xs : List E) (e : E) (y : S) → xs ≡ e ∷ [] → has_turn me.0.stage ≡ 1 → caller e ≡ me.0.number → entries y ≡ me.0.seen ++ xs → length (entries y) < 2 ^ 64
         → Allows (Rule part) slots id me 2 (λ n. (n + 1) % 2 ^ 64) (committed xs (step slots 2 1 0 none) me)
     adds_one me xs e y is turn by list room =

@@ -1,7 +1,8 @@
 ghost use Rattle.std.specs.Prelude.{◌≡◌, ℕ, List, length};
 
-/// A state that stands for a list of entries, each with its caller's number, and that has a part which is not to change.
-/// The lock reads the list and the fixed part in proofs alone, compares them, and never takes them apart.
+/// A state that stands for a list of entries, each with its caller's number,
+/// and that has a part which is not to change.
+/// The lock reads the list and the fixed part in proofs alone. It compares them, and never takes them apart.
 pub trait Kept: Drop {
     /// What callers add to the list, one at a time.
     type Entry;

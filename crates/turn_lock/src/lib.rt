@@ -1,4 +1,4 @@
-//! A lock that serves its callers in the order of their tickets, and keeps one history of what they did under it.
+//! A lock that serves its callers in the order of their tickets, round a state that is a list of what they did.
 //!
 //! - `kept`: what a state under the lock stands for, a list of entries and a part that never changes.
 //! - `pass`: what a caller knows of the lock. Each caller's thread has one.
@@ -21,6 +21,6 @@ mod tests;
 mod turn;
 
 pub use kept::Kept;
-pub use lock::TurnLock;
+pub use lock::{MOST_PASSES, TurnLock};
 pub use pass::Pass;
 pub use turn::Turn;

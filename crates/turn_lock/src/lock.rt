@@ -28,7 +28,8 @@ impl<S: Kept> TurnLock<S> {
     ghost use Rattle.turn_lock.specs.Passes.{known, fresh, after_split, after_join, fixed_part, IsPassOf};
     ghost use Rattle.turn_lock.specs.Turns.{knows, in_hand, state_of, lock_of, pass_name, IsTurn};
 
-    /// A lock round a state whose list is empty, and its root pass, whose number is 0. This call alone takes memory.
+    /// A lock round a state whose list is empty, and its root pass, whose number is 0.
+    /// This call alone takes memory. Where there is none, the state is dropped.
     pub fn new(alloc: Global, state: S) -> Result<(TurnLock<S>, Pass<S>), WantOfMemory>
         requires { S.entries state ≡ [] }
         ensures of { IfOk result (λ r. IsPassOf r.0 r.1) }
@@ -51,11 +52,12 @@ impl<S: Kept> TurnLock<S> {
         }
     }
 
-    /// A pass with the next number, for another thread. It has seen what the root has. There are at most 256 passes, the root among them.
+    /// A pass with the next number, for another thread. It has seen what the root has.
+    /// A lock has at most `MOST_PASSES` passes.
     pub fn split(&self, root: &mut Pass<S>) -> Pass<S>
         requires of { IsPassOf self.now root.old }
         requires root { (known root.old).number ≡ 0 }
-        requires few { (known root.old).given < 256 }
+        requires few { (known root.old).given < MOST_PASSES }
         ensures of { IsPassOf self.now root.new × IsPassOf self.now result }
         ensures root { known root.new ≡ after_split (known root.old) }
         ensures new { known result ≡ fresh (known root.old).given 0 (known root.old).seen }
@@ -70,7 +72,8 @@ impl<S: Kept> TurnLock<S> {
         }
     }
 
-    /// Takes in a pass that `split` gave. The root keeps its number and its entries, and has then seen the longer of the two lists.
+    /// Takes in a pass that `split` gave. The root keeps its number and its entries,
+    /// and has then seen the longer of the two lists.
     pub fn join(&self, root: &mut Pass<S>, other: Pass<S>)
         requires of { IsPassOf self.now root.old × IsPassOf self.now other }
         requires root { (known root.old).number ≡ 0 }
@@ -88,8 +91,9 @@ impl<S: Kept> TurnLock<S> {
         self.table.shared.load::<Compare>(&mut root.seat, TICKET);
     }
 
-    /// Waits for the turn, and gives the state. The list has as a beginning all that the pass had seen, and the entries with its number are its own.
-    /// The turn has to be ended by `leave`. It may wait for ever: nothing is claimed of how long.
+    /// Waits for the turn, and gives the state. The state's list begins with all that the pass had seen,
+    /// and the entries with the pass's number are its own. `leave` ends the turn.
+    /// It may wait for ever: nothing is claimed of how long.
     pub fn enter<'a, R: Wait>(&'a self, rt: &R, pass: &'a mut Pass<S>) -> Turn<'a, S>
         requires { IsPassOf self.now pass.old }
         ensures turn { IsTurn result × (lock_of result ≡ self.now) }
@@ -115,7 +119,9 @@ impl<S: Kept> TurnLock<S> {
         requires joined { length (known root).joined + 1 ≡ (known root).given }
         ensures seen { IsPrefix (known root).seen (S.entries result) }
         ensures fixed { S.fixed result ≡ fixed_part S.fixed self }
-        ensures calls { (n : ℕ) → calls_of S.caller n (S.entries result) ≡ kept_of n ((0, (known root).own) ∷ (known root).joined) }
+        ensures calls { (n : ℕ)
+            → calls_of S.caller n (S.entries result)
+            ≡ kept_of n ((0, (known root).own) ∷ (known root).joined) }
     {
         let Pass {
             seat,

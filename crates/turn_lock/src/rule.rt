@@ -1,5 +1,6 @@
-//! What is true of the lock at every moment. Its words are the next ticket, the ticket that is served and the length of the history.
-//! Its slot has the state, or nothing while the state is out with the pass that has the turn.
+//! What is true of the lock at every moment.
+//! Its words are the next ticket, the ticket that is served and the number of entries that were committed.
+//! Its slot has the state, or nothing while the state is in the hand of the pass that has the turn.
 use crate::kept::Kept;
 use atomic_table::{Seat, Table, TableRule};
 use std::alloc::Global;

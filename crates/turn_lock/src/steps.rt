@@ -59,9 +59,13 @@ impl<S: Kept> TurnLock<S> {
     // Adds the last entry of the state in hand to the history.
     pub(crate) fn add_last(&self, pass: &mut Pass<S>, state: &S)
         requires held { IsHeldBy self.now pass.old }
-        requires one { (e : S.Entry) × (S.entries state.now ≡ (known pass.old).seen ++ e ∷ []) × (S.caller e ≡ (known pass.old).number) }
+        requires one { (e : S.Entry)
+            × (S.entries state.now ≡ (known pass.old).seen ++ e ∷ [])
+            × (S.caller e ≡ (known pass.old).number) }
         ensures held { IsHeldBy self.now pass.new }
-        ensures entry { (e : S.Entry) → S.entries state.now ≡ (known pass.old).seen ++ e ∷ [] → known pass.new ≡ with_entry (known pass.old) e }
+        ensures entry { (e : S.Entry)
+            → S.entries state.now ≡ (known pass.old).seen ++ e ∷ []
+            → known pass.new ≡ with_entry (known pass.old) e }
     {
         self.commit::<Brand>(&mut pass.seat, state);
     }

@@ -45,8 +45,8 @@ impl<'a, S: Kept> Turn<'a, S> {
         self.lock.add_last(pass, &self.state);
     }
 
-    /// Puts the state home and passes the turn on. All that is in the list was committed, and the fixed part is as it was.
-    /// The pass has then seen the whole list.
+    /// Puts the state home and passes the turn on. The pass has then seen the whole list.
+    /// All that is in the list was committed, and the fixed part is as it was.
     pub fn leave(self)
         requires turn { IsTurn self }
         requires committed { in_hand self ≡ committed self }

@@ -18,7 +18,8 @@ pub fn add<R: Wait>(
     requires { IsPassOf lock.now pass.old }
     ensures of { IsPassOf lock.now pass.new }
     ensures number { (known pass.new).number ≡ (known pass.old).number }
-    ensures root { ((known pass.new).given ≡ (known pass.old).given) × ((known pass.new).joined ≡ (known pass.old).joined) }
+    ensures root { ((known pass.new).given ≡ (known pass.old).given)
+        × ((known pass.new).joined ≡ (known pass.old).joined) }
     ensures ok { OnOk result ((known pass.new).own ≡ (known pass.old).own ++ ((known pass.old).number, number) ∷ []) }
 {
     let caller = pass.number();
@@ -61,7 +62,9 @@ pub fn finds<R: Wait>(
 ) -> bool
     requires { IsPassOf lock.now pass.old }
     ensures of { IsPassOf lock.now pass.new }
-    ensures root { ((known pass.new).number ≡ (known pass.old).number) × ((known pass.new).given ≡ (known pass.old).given) × ((known pass.new).joined ≡ (known pass.old).joined) }
+    ensures root { ((known pass.new).number ≡ (known pass.old).number)
+        × ((known pass.new).given ≡ (known pass.old).given)
+        × ((known pass.new).joined ≡ (known pass.old).joined) }
 {
     let mut turn = lock.enter(rt, pass);
     let found = turn.state().is(wanted);
@@ -119,18 +122,26 @@ fn four_add<R: Threads + Wait + Sync>(
     b: (Pass<Log>, Pass<Log>),
     count: u64,
 ) -> ((Added, Added), (Added, Added))
-    requires { IsPassOf lock.now a.0 × IsPassOf lock.now a.1 × IsPassOf lock.now b.0 × IsPassOf lock.now b.1 }
-    ensures { IfOk result.0.0 (λ p. IsPassOf lock.now p) × IfOk result.0.1 (λ p. IsPassOf lock.now p) × IfOk result.1.0 (λ p. IsPassOf lock.now p) × IfOk result.1.1 (λ p. IsPassOf lock.now p) }
+    requires { IsPassOf lock.now a.0
+        × IsPassOf lock.now a.1
+        × IsPassOf lock.now b.0
+        × IsPassOf lock.now b.1 }
+    ensures { IfOk result.0.0 (λ p. IsPassOf lock.now p)
+        × IfOk result.0.1 (λ p. IsPassOf lock.now p)
+        × IfOk result.1.0 (λ p. IsPassOf lock.now p)
+        × IfOk result.1.1 (λ p. IsPassOf lock.now p) }
 {
     join(
         rt,
         move || -> (Added, Added)
             requires { IsPassOf lock.now a.0 × IsPassOf lock.now a.1 }
-            ensures { IfOk result.0 (λ p. IsPassOf lock.entry.now p) × IfOk result.1 (λ p. IsPassOf lock.entry.now p) }
+            ensures { IfOk result.0 (λ p. IsPassOf lock.entry.now p)
+                × IfOk result.1 (λ p. IsPassOf lock.entry.now p) }
         { both_add(rt, lock, a.0, a.1, count) },
         move || -> (Added, Added)
             requires { IsPassOf lock.now b.0 × IsPassOf lock.now b.1 }
-            ensures { IfOk result.0 (λ p. IsPassOf lock.entry.now p) × IfOk result.1 (λ p. IsPassOf lock.entry.now p) }
+            ensures { IfOk result.0 (λ p. IsPassOf lock.entry.now p)
+                × IfOk result.1 (λ p. IsPassOf lock.entry.now p) }
         { both_add(rt, lock, b.0, b.1, count) },
     )
 }
@@ -140,8 +151,12 @@ fn split_two(lock: &TurnLock<Log>, root: &mut Pass<Log>) -> (Pass<Log>, Pass<Log
     requires of { IsPassOf lock.now root.old }
     requires root { (known root.old).number ≡ 0 }
     requires few { (known root.old).given < 255 }
-    ensures of { IsPassOf lock.now root.new × IsPassOf lock.now result.0 × IsPassOf lock.now result.1 }
-    ensures root { ((known root.new).number ≡ 0) × ((known root.new).given ≡ (known root.old).given + 2) × ((known root.new).joined ≡ (known root.old).joined) }
+    ensures of { IsPassOf lock.now root.new
+        × IsPassOf lock.now result.0
+        × IsPassOf lock.now result.1 }
+    ensures root { ((known root.new).number ≡ 0)
+        × ((known root.new).given ≡ (known root.old).given + 2)
+        × ((known root.new).joined ≡ (known root.old).joined) }
 {
     let one = lock.split(root);
     let two = lock.split(root);
@@ -153,9 +168,14 @@ fn join_two(
     root: &mut Pass<Log>,
     two: (Added, Added),
 ) -> Result<(), WantOfMemory>
-    requires of { IsPassOf lock.now root.old × IfOk two.0 (λ p. IsPassOf lock.now p) × IfOk two.1 (λ p. IsPassOf lock.now p) }
+    requires of { IsPassOf lock.now root.old
+        × IfOk two.0 (λ p. IsPassOf lock.now p)
+        × IfOk two.1 (λ p. IsPassOf lock.now p) }
     requires root { (known root.old).number ≡ 0 }
-    ensures { OnOk result (IsPassOf lock.now root.new × ((known root.new).number ≡ 0) × ((known root.new).given ≡ (known root.old).given) × (length (known root.new).joined ≡ length (known root.old).joined + 2)) }
+    ensures { OnOk result (IsPassOf lock.now root.new
+        × ((known root.new).number ≡ 0)
+        × ((known root.new).given ≡ (known root.old).given)
+        × (length (known root.new).joined ≡ length (known root.old).joined + 2)) }
 {
     lock.join(root, two.0?);
     lock.join(root, two.1?);
@@ -177,12 +197,24 @@ pub fn eight_add<R: Threads + Wait + Sync>(
     let ((a, b), (c, d)) = join(
         rt,
         move || -> ((Added, Added), (Added, Added))
-            requires { IsPassOf shared.now a.0 × IsPassOf shared.now a.1 × IsPassOf shared.now b.0 × IsPassOf shared.now b.1 }
-            ensures { IfOk result.0.0 (λ p. IsPassOf shared.entry.now p) × IfOk result.0.1 (λ p. IsPassOf shared.entry.now p) × IfOk result.1.0 (λ p. IsPassOf shared.entry.now p) × IfOk result.1.1 (λ p. IsPassOf shared.entry.now p) }
+            requires { IsPassOf shared.now a.0
+                × IsPassOf shared.now a.1
+                × IsPassOf shared.now b.0
+                × IsPassOf shared.now b.1 }
+            ensures { IfOk result.0.0 (λ p. IsPassOf shared.entry.now p)
+                × IfOk result.0.1 (λ p. IsPassOf shared.entry.now p)
+                × IfOk result.1.0 (λ p. IsPassOf shared.entry.now p)
+                × IfOk result.1.1 (λ p. IsPassOf shared.entry.now p) }
         { four_add(rt, shared, a, b, count) },
         move || -> ((Added, Added), (Added, Added))
-            requires { IsPassOf shared.now c.0 × IsPassOf shared.now c.1 × IsPassOf shared.now d.0 × IsPassOf shared.now d.1 }
-            ensures { IfOk result.0.0 (λ p. IsPassOf shared.entry.now p) × IfOk result.0.1 (λ p. IsPassOf shared.entry.now p) × IfOk result.1.0 (λ p. IsPassOf shared.entry.now p) × IfOk result.1.1 (λ p. IsPassOf shared.entry.now p) }
+            requires { IsPassOf shared.now c.0
+                × IsPassOf shared.now c.1
+                × IsPassOf shared.now d.0
+                × IsPassOf shared.now d.1 }
+            ensures { IfOk result.0.0 (λ p. IsPassOf shared.entry.now p)
+                × IfOk result.0.1 (λ p. IsPassOf shared.entry.now p)
+                × IfOk result.1.0 (λ p. IsPassOf shared.entry.now p)
+                × IfOk result.1.1 (λ p. IsPassOf shared.entry.now p) }
         { four_add(rt, shared, c, d, count) },
     );
     join_two(&lock, &mut root, a)?;

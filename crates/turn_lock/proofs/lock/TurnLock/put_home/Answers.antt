@@ -9,4 +9,4 @@ exchange-requires g c = let held = c.requires.held in let out = one_out _ held.s
 
 pub fetch_add-requires : goal.fetch_add-requires
 fetch_add-requires g c = let held = c.requires.held in
-    (search rules, search rules, passes_home g.S.Kept.entries g.S.Kept.fixed g.S.Kept.caller _ _ _ c.args.pass.now.seat.me _ c.args.state c.exchange.ensures.3 held.slot held.inside c.requires.committed held.same_part c.requires.fixed)
+    (search rules, search rules, passes_home g.S.Kept.entries g.S.Kept.fixed g.S.Kept.caller _ _ _ c.args.pass.now.seat.me c.exchange.new.seat.me c.args.state c.exchange.ensures.3 held.slot held.inside c.requires.committed held.same_part c.requires.fixed)
