@@ -1,0 +1,26 @@
+ghost use Rattle.std.specs.Prelude.{◌≡◌};
+
+use crate::kept::Kept;
+use crate::rule::LockSeat;
+
+/// What a caller knows of a lock: its number, the list as far as it has seen it, and its own entries in it.
+/// A pass cannot be copied. It has no bytes but its number and, of the root, a count.
+#[derive(Drop)]
+pub struct Pass<S: Kept> {
+    pub(crate) seat: LockSeat<S>,
+    pub(crate) number: u8,
+    pub(crate) given: u16,
+    ghost numbered: { number ≡ seat.me.0.number },
+    ghost counted: { given ≡ seat.me.0.given },
+}
+
+impl<S: Kept> Pass<S> {
+    ghost use Rattle.turn_lock.specs.Passes.{known};
+
+    /// The number under which this pass's entries stand: 0 for the root.
+    pub fn number(&self) -> u8
+        ensures { result ≡ (known self.now).number }
+    {
+        self.number
+    }
+}
