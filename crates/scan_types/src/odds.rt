@@ -1,0 +1,25 @@
+ghost use Rattle.std.specs.Prelude.{◌≡◌, ◌≤◌, IfSome, IsSome, ◌↔◌};
+
+/// Decimal odds in thousandths, from 1.001 to 1000.000: a winning stake returns itself times the odds.
+#[derive(Clone, Copy, Debug, PartialEq, Eq, PartialOrd, Ord, Hash)]
+pub struct Odds {
+    pub thousandths: u32,
+    ghost at_least: { 1001 ≤ thousandths },
+    ghost at_most: { thousandths ≤ 1000000 },
+}
+
+impl Odds {
+    ghost use Rattle.scan_types.specs.Ranges.{IsOddsRange};
+
+    /// The odds of so many thousandths, or `None` outside 1,001 to 1,000,000.
+    pub fn new(thousandths: u32) -> Option<Odds>
+        ensures value { IfSome result (λ odds. odds.thousandths ≡ thousandths) }
+        ensures in_range { IsSome result ↔ IsOddsRange thousandths }
+    {
+        if (1_001..=1_000_000).contains(&thousandths) {
+            Some(Odds { thousandths })
+        } else {
+            None
+        }
+    }
+}

@@ -1,0 +1,56 @@
+ghost use Rattle.std.specs.Prelude.{◌≡◌, ◌≤◌, IfSome, IsSome, IsTrue, ◌↔◌};
+
+use crate::odds::Odds;
+use crate::rule::VoidRule;
+use crate::selection::Selection;
+
+/// One book's offer on one match: up to `limit` minor units may be staked at `odds`.
+#[derive(Clone, Copy, Debug, PartialEq, Eq, Hash)]
+pub struct Offer {
+    pub feed: u8,
+    pub selection: Selection,
+    pub odds: Odds,
+    pub limit: u32,
+    pub rule: VoidRule,
+    ghost feed_at_most: { feed ≤ 7 },
+    ghost limit_at_least: { 1 ≤ limit },
+    ghost limit_at_most: { limit ≤ 100000000 },
+}
+
+impl Offer {
+    ghost use Rattle.scan_types.specs.Ranges.{IsFeedNumber, IsLimitRange};
+    ghost use Rattle.scan_types.specs.Offers.{HasTerms, IsBelow};
+
+    /// The offer with these terms, or `None` where the feed is above 7 or the limit outside 1 to
+    /// 100,000,000.
+    pub fn new(
+        feed: u8,
+        selection: Selection,
+        odds: Odds,
+        limit: u32,
+        rule: VoidRule,
+    ) -> Option<Offer>
+        ensures value { IfSome result (λ offer. HasTerms offer feed selection odds limit rule) }
+        ensures in_range { IsSome result ↔ (IsFeedNumber feed × IsLimitRange limit) }
+    {
+        if feed <= 7 && 1 <= limit && limit <= 100_000_000 {
+            Some(Offer {
+                feed,
+                selection,
+                odds,
+                limit,
+                rule,
+            })
+        } else {
+            None
+        }
+    }
+
+    /// Whether this offer comes before the other on a sheet: by feed, and within a feed by selection.
+    pub fn is_below(&self, other: &Offer) -> bool
+        ensures { IsTrue result ↔ IsBelow self.now other.now }
+    {
+        self.feed < other.feed
+            || (self.feed == other.feed && self.selection.number() < other.selection.number())
+    }
+}
