@@ -1,0 +1,57 @@
+-- The report as a function of the budget, the feeds, and each match with its sheet and its finding.
+use Rattle.std.specs.Prelude.{ℕ, ◌≡◌, List, [], ◌∷◌, ◌++◌, length, codes, decimal, All, AllPairs, Any}
+use Rattle.std.specs.List.{flat_map, enumerate_from}
+use Rattle.std.specs.Cmp.Lexicographic.{slice_cmp}
+use Rattle.std.specs.Ordering.{nat_cmp}
+use Rattle.std.specs.declared.cmp.Ordering.TheVariants as ordering
+use Rattle.scan_types.specs.declared.offer.Offer.{Offer}
+use Rattle.scan_types.specs.declared.outcome.Outcome.{Outcome}
+use Rattle.result_verdict.specs.declared.First.{First}
+use Rattle.result_verdict.specs.declared.First.TheVariants.{Arb, Coherent, Unsettled1}
+use Rattle.report_definitions.specs.declared.match_part.MatchPart.{MatchPart}
+use Rattle.report_definitions.specs.Standing.{FeedPart, IsQuoted, IsSheetOf}
+use Rattle.report_definitions.specs.Words.{line_of, odds_text, selection_fields, rule_text, outcome_fields}
+
+-- a list with its length before it
+abbrev pub counted : {A : Type 0} → (A → List (List ℕ)) → List A → List (List ℕ)
+counted fields items = decimal (length items) ∷ flat_map fields items
+
+abbrev pub stake_fields : List ℕ → List (List ℕ)
+stake_fields stakes = counted (λ stake. decimal stake ∷ []) stakes
+
+abbrev pub measure_fields : List (Outcome × ℕ) → List (List ℕ)
+measure_fields weights = counted (λ weight. outcome_fields weight.0 ++ decimal weight.1 ∷ []) weights
+
+abbrev pub finding_fields : First → List (List ℕ)
+finding_fields (Arb stakes) = codes "arb" ∷ stake_fields stakes
+finding_fields (Coherent measure) = codes "coherent" ∷ measure_fields measure
+finding_fields (Unsettled1 stakes) = codes "unsettled1" ∷ stake_fields stakes
+
+abbrev pub offer_line : Offer → List ℕ
+offer_line offer = line_of (codes "offer" ∷ decimal offer.feed ∷
+    (selection_fields offer.selection ++ odds_text offer.odds.thousandths ∷ decimal offer.limit ∷ []))
+
+abbrev pub match_lines : MatchPart → List ℕ
+match_lines part = line_of (codes "match" ∷ part.match_name ∷ codes "offers" ∷ decimal (length part.sheet) ∷ [])
+    ++ flat_map offer_line part.sheet
+    ++ line_of (codes "finding" ∷ finding_fields part.finding)
+
+-- a feed that was read to its end without a refusal
+abbrev pub feed_line : ℕ × FeedPart → List ℕ
+feed_line numbered = let feed = numbered.1 in line_of (codes "feed" ∷ decimal numbered.0 ∷ feed.book ∷ rule_text feed.rule
+    ∷ codes "lines" ∷ decimal feed.lines ∷ codes "refused" ∷ decimal 0 ∷ codes "end" ∷ [])
+
+-- the report of these feeds and matches, where each run of a program has so many pivots
+unfoldable pub report_text : ℕ → List FeedPart → List MatchPart → List ℕ
+report_text pivots feeds matches = line_of (codes "arbscan" ∷ codes "report" ∷ decimal 1 ∷ [])
+    ++ line_of (codes "pivots" ∷ decimal pivots ∷ [])
+    ++ flat_map feed_line (enumerate_from 0 feeds)
+    ++ flat_map match_lines matches
+    ++ line_of (codes "end" ∷ [])
+
+-- the matches are those that some feed quoted, rising by the bytes of their names, each with its sheet
+pub record AreMatchesOf (feeds : List FeedPart) (matches : List MatchPart) : Type 0 where
+  pub rising : AllPairs (λ a b. slice_cmp nat_cmp a.match_name b.match_name ≡ ordering.Less) matches
+  pub quoted : (match_name : List ℕ) → IsQuoted feeds match_name → Any (λ part. part.match_name ≡ match_name) matches
+  pub only : All (λ part. IsQuoted feeds part.match_name) matches
+  pub sheets : All (λ part. IsSheetOf feeds part.match_name part.sheet) matches
