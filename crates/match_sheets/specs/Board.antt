@@ -1,0 +1,67 @@
+-- What stands on each match after some of the accepted lines of each feed.
+use Rattle.std.specs.Prelude.{ℕ, ◌≡◌, ◌+◌, ◌*◌, ◌<◌, Bool, ◌==◌, ◌&&◌, nat_lt, IsTrue, List, [], reverse, find, length, replicate, Option, Some, None, option_and_then, MatchOption, slice_get, slice_set, slice_index_or, Any, if◌then◌else◌}
+use Rattle.std.specs.Option.{option_map_or}
+use Rattle.std.specs.BTreeMap.{BTreeMap, get}
+use Rattle.std.specs.Cmp.Lexicographic.{slice_cmp}
+use Rattle.std.specs.Ordering.{nat_cmp}
+use Rattle.std.specs.Str.{bytes_eq}
+use Rattle.scan_types.specs.declared.offer.Offer.{Offer}
+use Rattle.scan_types.specs.declared.rule.VoidRule.TheVariants.{Void}
+use Rattle.scan_types.specs.Selections.{selection_number}
+use Rattle.feed_definitions.specs.Plain.{LineText, is_quote}
+use Rattle.report_definitions.specs.Standing.{FeedPart, quoted}
+use Rattle.match_sheets.specs.declared.slots.Slots.{Slots}
+use Rattle.match_sheets.specs.Slots.{slot_of}
+
+-- the accepted lines of a feed, and none beyond the last feed
+abbrev pub lines_of : List FeedPart → ℕ → List LineText
+lines_of feeds k = option_map_or (λ feed. feed.accepted) (slice_get feeds k) []
+
+-- the accepted lines of the first n feeds
+abbrev pub lines_before : List FeedPart → ℕ → ℕ → List LineText
+lines_before feeds n k = if nat_lt k n then lines_of feeds k else []
+
+-- the line is about the selection of this number on this match
+abbrev pub is_about_number : List ℕ → ℕ → LineText → Bool
+is_about_number match_name number line = bytes_eq line.match_name match_name && (selection_number line.selection == number)
+
+-- what these lines leave standing of the selection of this number on a match
+abbrev pub standing_at : List LineText → List ℕ → ℕ → Option (ℕ × ℕ)
+standing_at lines match_name number =
+    option_and_then (λ line. quoted line.change) (find (is_about_number match_name number) (reverse lines))
+
+-- the offer is the one of feed k that these lines leave standing
+pub record IsStanding (lines : List LineText) (match_name : List ℕ) (k number : ℕ) (offer : Offer) : Type 0 where
+  pub feed : offer.feed ≡ k
+  pub selection : selection_number offer.selection ≡ number
+  pub stands : standing_at lines match_name number ≡ Some (offer.odds.thousandths, offer.limit)
+  pub rule : offer.rule ≡ Void
+
+-- the slot has the offer that stands, and none where none stands
+abbrev pub IsSlot : List LineText → List ℕ → ℕ → ℕ → Option Offer → Type 0
+IsSlot lines match_name k number slot =
+    MatchOption slot (standing_at lines match_name number ≡ None) (IsStanding lines match_name k number)
+
+-- each slot has what stands
+pub record AreSlots (lines : ℕ → List LineText) (match_name : List ℕ) (slots : List (Option Offer)) : Type 0 where
+  pub long : length slots ≡ 24
+  pub each : (k number : ℕ) → k < 8 → number < 3 →
+      IsSlot (lines k) match_name k number (slice_index_or slots (3 * k + number) None)
+
+-- one of the lines quotes the match
+abbrev pub IsNamed : (ℕ → List LineText) → List ℕ → Type 0
+IsNamed lines match_name = (k : ℕ) × Any (λ line. (line.match_name ≡ match_name) × IsTrue (is_quote line)) (lines k)
+
+-- what the board has of a match: nothing where no line quotes it
+abbrev pub IsEntry : (ℕ → List LineText) → List ℕ → Option Slots → Type 0
+IsEntry lines match_name None = ¬ (IsNamed lines match_name)
+IsEntry lines match_name (Some slots) = IsNamed lines match_name × AreSlots lines match_name slots.offers
+
+-- the board has the slots of each match that one of the lines quotes
+abbrev pub IsBoard : (ℕ → List LineText) → BTreeMap (List ℕ) Slots → Type 0
+IsBoard lines board = (match_name : List ℕ) → IsEntry lines match_name (get (slice_cmp nat_cmp) board match_name)
+
+-- the slots, or new ones, with one more offer
+abbrev pub with_offer : Option Slots → Offer → Slots
+with_offer slots offer =
+    record { offers = slice_set (option_map_or (λ s. s.offers) slots (replicate 24 None)) (slot_of offer) (Some offer) }
