@@ -1,5 +1,5 @@
 -- What stands on each match after some of the accepted lines of each feed.
-use Rattle.std.specs.Prelude.{ℕ, ◌≡◌, ◌+◌, ◌*◌, ◌<◌, Bool, ◌==◌, ◌&&◌, nat_lt, IsTrue, List, [], reverse, find, length, replicate, Option, Some, None, option_and_then, MatchOption, slice_get, slice_set, slice_index_or, Any, if◌then◌else◌}
+use Rattle.std.specs.Prelude.{ℕ, ◌≡◌, ◌+◌, ◌*◌, ◌<◌, Bool, ◌==◌, ◌&&◌, nat_lt, IsTrue, List, [], reverse, find, length, replicate, Option, Some, None, option_and_then, MatchOption, slice_get, slice_set, slice_index_or, Contains, if◌then◌else◌}
 use Rattle.std.specs.Option.{option_map_or}
 use Rattle.std.specs.BTreeMap.{BTreeMap, get}
 use Rattle.std.specs.Cmp.Lexicographic.{slice_cmp}
@@ -49,8 +49,12 @@ pub record AreSlots (lines : ℕ → List LineText) (match_name : List ℕ) (slo
       IsSlot (lines k) match_name k number (slice_index_or slots (3 * k + number) None)
 
 -- one of the lines quotes the match
-abbrev pub IsNamed : (ℕ → List LineText) → List ℕ → Type 0
-IsNamed lines match_name = (k : ℕ) × Any (λ line. (line.match_name ≡ match_name) × IsTrue (is_quote line)) (lines k)
+pub record IsNamed (lines : ℕ → List LineText) (match_name : List ℕ) : Type 0 where
+  pub feed : ℕ
+  pub line : LineText
+  pub read : Contains (lines feed) line
+  pub about : line.match_name ≡ match_name
+  pub quote : IsTrue (is_quote line)
 
 -- what the board has of a match: nothing where no line quotes it
 abbrev pub IsEntry : (ℕ → List LineText) → List ℕ → Option Slots → Type 0

@@ -4,7 +4,7 @@ use Rattle.scan_types.specs.declared.offer.Offer.{Offer}
 use Rattle.scan_types.specs.declared.rule.VoidRule.TheVariants.{Void}
 use Rattle.scan_types.specs.Selections.{selection_number}
 use Rattle.scan_types.specs.Sheets.{IsSheet}
-use Rattle.result_verdict.specs.Finding.{IsFirstFinding, IsRightFirst}
+use Rattle.result_verdict.specs.Findings.{IsFirstFinding, IsRightFirst}
 use Rattle.report_definitions.specs.declared.match_part.MatchPart.{MatchPart}
 
 -- the slot of an offer on a result

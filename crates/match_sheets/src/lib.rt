@@ -12,4 +12,3 @@ mod matches;
 mod slots;
 
 pub use matches::matches_of;
-

@@ -1,7 +1,11 @@
-ghost use Rattle.std.specs.Prelude.{◌≤◌, length, map, All, IfOk};
+ghost use Rattle.std.specs.Prelude.{◌≤◌, ℕ, List, length, map, All, IfOk, IfSome};
+ghost use Rattle.std.specs.List.{AllZip};
+ghost use Rattle.std.specs.BTreeMap.{get, IsOrdered};
+ghost use Rattle.std.specs.Cmp.Lexicographic.{slice_cmp};
+ghost use Rattle.std.specs.Ordering.{nat_cmp};
 ghost use Rattle.report_definitions.specs.Report.{AreMatchesOf};
 ghost use Rattle.report_definitions.specs.Standing.{feed_part};
-ghost use Rattle.result_verdict.specs.Finding.{IsFirstFinding, IsRightFirst};
+ghost use Rattle.result_verdict.specs.Findings.{IsFirstFinding, IsRightFirst};
 ghost use Rattle.match_sheets.specs.Plain.{ArePlain};
 ghost use Rattle.match_sheets.specs.Slots.{IsPartOf, ArePlaced};
 
@@ -11,6 +15,7 @@ use report_definitions::{MatchPart, ReadFeed};
 use result_verdict::first_finding;
 use scan_types::{Name, WantOfMemory};
 use std::alloc::Global;
+use std::collections::BTreeMap;
 
 /// The match with the offers in these slots and its finding.
 fn part_of(alloc: Global, match_name: Name, slots: &Slots) -> Result<MatchPart, WantOfMemory>
@@ -26,6 +31,19 @@ fn part_of(alloc: Global, match_name: Name, slots: &Slots) -> Result<MatchPart, 
     })
 }
 
+/// The matches on the board in its order, each with its finding.
+fn parts_of(alloc: Global, board: &BTreeMap<Name, Slots>) -> Result<Vec<MatchPart>, WantOfMemory>
+    requires { (q : List ℕ) → IfSome (get (slice_cmp nat_cmp) board.now q) (λ slots. ArePlaced slots.offers) }
+    ensures rising { IsOrdered (slice_cmp nat_cmp) board.now }
+    ensures parts { IfOk result (λ parts. AllZip (λ entry part. IsPartOf entry.0 entry.1.offers part) board.now.entries parts.items) }
+{
+    let mut parts = Vec::with_capacity(alloc, board.len())?;
+    for (match_name, slots) in board {
+        parts.push(part_of(alloc, *match_name, slots)?)?;
+    }
+    Ok(parts)
+}
+
 /// The matches that the feeds quoted, rising by the bytes of their names, each with the offers that stand on it and its finding.
 ///
 /// Takes time for each accepted line that grows with the logarithm of the number of matches, and memory for what it returns and a
@@ -38,9 +56,5 @@ pub fn matches_of(alloc: Global, feeds: &[ReadFeed]) -> Result<Vec<MatchPart>, W
     ensures right { IfOk result (λ matches. All (λ part. IsRightFirst part.sheet part.finding) matches.items) }
 {
     let board = board_of(alloc, feeds)?;
-    let mut parts = Vec::with_capacity(alloc, board.len())?;
-    for (match_name, slots) in &board {
-        parts.push(part_of(alloc, *match_name, slots)?)?;
-    }
-    Ok(parts)
+    parts_of(alloc, &board)
 }

@@ -10,7 +10,7 @@ pub(crate) const SLOTS: usize = 24;
 
 /// What stands on one match: a slot for each feed and result, feed after feed, and within a feed the home win, the draw and the away
 /// win. So the slots are in the order of a sheet.
-#[derive(Clone, Copy)]
+#[derive(Drop)]
 pub(crate) struct Slots {
     pub(crate) offers: [Option<Offer>; SLOTS],
 }
