@@ -12,3 +12,6 @@ mod matches;
 mod slots;
 
 pub use matches::matches_of;
+
+#[cfg(test)]
+mod tests;
