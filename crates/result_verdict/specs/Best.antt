@@ -1,0 +1,33 @@
+use Rattle.std.specs.Prelude.{ℕ, ◌≡◌, ◌≢◌, ◌<◌, ◌≤◌, List, All, Some, slice_get, Option, None, ⊤}
+use Rattle.std.specs.List.{AllWithin}
+use Rattle.scan_types.specs.declared.offer.Offer.{Offer}
+use Rattle.scan_types.specs.declared.selection.Selection.{Selection}
+use Rattle.scan_types.specs.declared.selection.Selection.TheVariants.{Home, Draw, Away}
+use Rattle.result_verdict.specs.declared.best.Best.{Best}
+use Rattle.result_verdict.specs.declared.best.Trio.{Trio}
+
+-- no offer backs the selection
+abbrev pub IsUnbacked : List Offer → Selection → Type 0
+IsUnbacked offers selection = All (λ offer. offer.selection ≢ selection) offers
+
+-- the odds of the best offer in thousandths
+abbrev pub odds_of : Best → ℕ
+odds_of best = best.offer.odds.thousandths
+
+-- of the offers that back the selection, this is the first that has the greatest odds
+pub record IsBest (offers : List Offer) (selection : Selection) (best : Best) : Type 0 where
+  pub stands : slice_get offers best.place ≡ Some best.offer
+  pub backs : best.offer.selection ≡ selection
+  pub greatest : All (λ offer. offer.selection ≡ selection → offer.odds.thousandths ≤ odds_of best) offers
+  pub first : AllWithin (λ offer. offer.selection ≡ selection → offer.odds.thousandths < odds_of best) offers 0 best.place
+
+-- these are the best offers on the home win, the draw and the away win
+pub record AreBest (offers : List Offer) (trio : Trio) : Type 0 where
+  pub home : IsBest offers Home trio.home
+  pub draw : IsBest offers Draw trio.draw
+  pub away : IsBest offers Away trio.away
+
+-- the odds are greater than those of the best offer so far, if there is one
+abbrev pub Beats : Offer → Option Best → Type 0
+Beats offer None = ⊤
+Beats offer (Some best) = odds_of best < offer.odds.thousandths
