@@ -3,8 +3,18 @@ use Rattle.std.specs.List.{AllWithin}
 use Rattle.scan_types.specs.declared.offer.Offer.{Offer}
 use Rattle.scan_types.specs.declared.selection.Selection.{Selection}
 use Rattle.scan_types.specs.declared.selection.Selection.TheVariants.{Home, Draw, Away}
+use Rattle.scan_types.specs.declared.rule.VoidRule.TheVariants.{Void}
+use Rattle.settlement_definitions.specs.Laws.{IsOnResult}
 use Rattle.result_verdict.specs.declared.best.Best.{Best}
 use Rattle.result_verdict.specs.declared.best.Trio.{Trio}
+
+-- a bet on the result, of a book that gives the stakes back where the match is abandoned
+abbrev pub IsResultOffer : Offer → Type 0
+IsResultOffer offer = IsOnResult offer.selection × (offer.rule ≡ Void)
+
+-- all offers are such bets
+abbrev pub IsResultSheet : List Offer → Type 0
+IsResultSheet offers = All IsResultOffer offers
 
 -- no offer backs the selection
 abbrev pub IsUnbacked : List Offer → Selection → Type 0

@@ -1,3 +1,4 @@
 pub mod Best
 pub mod Weights
 pub mod Floors
+pub mod Findings
