@@ -1,2 +1,5 @@
 pub mod Steps
 pub mod Proportions
+pub mod Divisors
+pub mod Evens
+pub mod Sums

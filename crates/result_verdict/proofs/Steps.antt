@@ -1,12 +1,12 @@
 -- The walk to the best offer on a selection: what is known of the offers that it has passed.
-use Rattle.std.proofs.Common.{◌≡◌, ◌≢◌, ◌≤◌, ◌<◌, ◌+◌, ⊤, ℕ, List, Option, None, Some, arith, length, get_or, sym, subst, refl}
+use Rattle.std.proofs.Common.{◌≡◌, ◌≢◌, ◌≤◌, ◌<◌, ◌+◌, ℕ, List, Option, None, Some, arith, length, get_or, sym, subst, refl}
 use Rattle.std.specs.List.{All, AllWithin, slice_get, HoldsAt}
 use Rattle.std.proofs.lemmas.List.Elements.{AllWithin-more, AllWithin-none, AllWithin-from_all, All-from_all_within, at_read}
 use Rattle.std.proofs.lemmas.Option.{slice_get_read}
 use Rattle.scan_types.specs.declared.offer.Offer.{Offer}
 use Rattle.scan_types.specs.declared.selection.Selection.{Selection}
 use Rattle.result_verdict.specs.declared.best.Best.{Best}
-use Rattle.result_verdict.specs.Best.{odds_of, IsBest, IsUnbacked}
+use Rattle.result_verdict.specs.Best.{odds_of, IsBest, IsUnbacked, Improves}
 
 pub record IsBestBelow (offers : List Offer) (selection : Selection) (n : ℕ) (best : Best) : Type 0 where
   pub stands : slice_get offers best.place ≡ Some best.offer
@@ -48,3 +48,20 @@ IsBest-from_below offers selection n best e h = record {
     greatest = λ k d l. h.greatest k d (omega arith) (omega arith);
     first = h.first
   }
+
+-- an offer that is not taken leaves the best one
+pub kept : (offers : List Offer) (selection : Selection) (n : ℕ) (offer : Offer) (best : Option Best) → n < length offers → offer ≡ get_or offers n offer → BestSoFar offers selection n best → (Improves offer selection best → ⊥) → BestSoFar offers selection (n + 1) best
+kept offers selection n offer None l e before not' = passed_none offers selection n offer l e before not'
+kept offers selection n offer (Some best) l e before not' =
+    passed_some offers selection n offer best l e before (λ s. let h : odds_of best < offer.odds.thousandths → ⊥ = λ more. not' (s, more) in omega (arith, h))
+
+-- an offer that is taken has greater odds than each before it
+pub takes : (offers : List Offer) (selection : Selection) (n : ℕ) (offer : Offer) (best : Option Best) → n < length offers → offer ≡ get_or offers n offer → BestSoFar offers selection n best → Improves offer selection best → BestSoFar offers selection (n + 1) (Some (record { place = n; offer = offer }))
+takes offers selection n offer None l e before more =
+    taken offers selection n (record { place = n; offer = offer }) l refl e more (λ k d lo hi s. absurd (before k d lo hi s))
+takes offers selection n offer (Some best) l e before more =
+    taken offers selection n (record { place = n; offer = offer }) l refl e more.0 (λ k d lo hi s. let h : (get_or offers k d).odds.thousandths ≤ odds_of best = before.greatest k d lo hi s in omega arith)
+
+-- at the end nothing is left that backs the selection
+pub all_passed : (offers : List Offer) (selection : Selection) (n : ℕ) → n ≡ length offers → BestSoFar offers selection n None → IsUnbacked offers selection
+all_passed offers selection n e before k d l = before k d (omega arith) (omega arith)

@@ -1,4 +1,4 @@
-use Rattle.std.specs.Prelude.{ℕ, ◌≡◌, ◌≢◌, ◌<◌, ◌≤◌, List, All, Some, slice_get, Option, None, ⊤}
+use Rattle.std.specs.Prelude.{ℕ, ◌≡◌, ◌≢◌, ◌<◌, ◌≤◌, List, All, Some, slice_get, Option, None}
 use Rattle.std.specs.List.{AllWithin}
 use Rattle.scan_types.specs.declared.offer.Offer.{Offer}
 use Rattle.scan_types.specs.declared.selection.Selection.{Selection}
@@ -37,7 +37,7 @@ pub record AreBest (offers : List Offer) (trio : Trio) : Type 0 where
   pub draw : IsBest offers Draw trio.draw
   pub away : IsBest offers Away trio.away
 
--- the odds are greater than those of the best offer so far, if there is one
-abbrev pub Beats : Offer → Option Best → Type 0
-Beats offer None = ⊤
-Beats offer (Some best) = odds_of best < offer.odds.thousandths
+-- the offer backs the selection, at greater odds than the best one so far, if there is one
+abbrev pub Improves : Offer → Selection → Option Best → Type 0
+Improves offer selection None = offer.selection ≡ selection
+Improves offer selection (Some best) = (offer.selection ≡ selection) × (odds_of best < offer.odds.thousandths)

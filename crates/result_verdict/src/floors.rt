@@ -21,6 +21,9 @@ impl Floors {
         ensures home { result.home ≡ floor_of trio.now (home_weight trio.now) }
         ensures draw { result.draw ≡ floor_of trio.now (draw_weight trio.now) }
         ensures away { result.away ≡ floor_of trio.now (away_weight trio.now) }
+        ensures home_within { result.home ≤ trio.now.home.offer.limit }
+        ensures draw_within { result.draw ≤ trio.now.draw.offer.limit }
+        ensures away_within { result.away ≤ trio.now.away.offer.limit }
     {
         let most = most_return(&trio.home).min(most_return(&trio.draw).min(most_return(&trio.away)));
         Floors {
@@ -60,7 +63,7 @@ impl Floors {
 
 /// The return of a winning bet of the whole limit, in 1/1000 of a minor unit.
 fn most_return(best: &Best) -> u64
-    ensures value { result ≡ best.now.offer.limit * best.now.offer.odds.thousandths }
+    ensures { result ≡ best.now.offer.limit * best.now.offer.odds.thousandths }
 {
     u64::from(best.offer.limit) * u64::from(best.offer.odds.thousandths)
 }
@@ -69,13 +72,14 @@ fn most_return(best: &Best) -> u64
 fn stake_for(most: u64, best: &Best) -> u32
     requires { most ≤ best.now.offer.limit * best.now.offer.odds.thousandths }
     ensures value { result ≡ most / best.now.offer.odds.thousandths }
+    ensures within { result ≤ best.now.offer.limit }
 {
     (most / u64::from(best.offer.odds.thousandths)) as u32
 }
 
 /// What comes back of a stake that wins, rounded down.
 fn returned(stake: u32, best: &Best) -> u64
-    ensures value { result ≡ stake * best.now.offer.odds.thousandths / 1000 }
+    ensures { result ≡ stake * best.now.offer.odds.thousandths / 1000 }
 {
     u64::from(stake) * u64::from(best.offer.odds.thousandths) / 1000
 }
