@@ -3,3 +3,5 @@ pub mod Proportions
 pub mod Divisors
 pub mod Evens
 pub mod Sums
+pub mod Bets
+pub mod Trios
