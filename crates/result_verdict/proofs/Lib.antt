@@ -5,3 +5,4 @@ pub mod Evens
 pub mod Sums
 pub mod Bets
 pub mod Trios
+pub mod Prices
