@@ -6,3 +6,4 @@ pub mod Sums
 pub mod Bets
 pub mod Trios
 pub mod Prices
+pub mod Outcomes
