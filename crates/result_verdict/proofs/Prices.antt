@@ -40,9 +40,9 @@ sure_form h a p q =
         few = omega arith;
         distinct = all_pairs_push R [] x (λ i j d l m. absurd (omega arith)) (λ k d l. absurd (omega arith));
         scores = All-cons S x [] (p, q) (All-nil S);
-        weights = All-cons W x [] (omega arith, omega arith) (All-nil W)
+        weights = All-cons W x [] (omega arith, omega arith) (All-nil W);
       };
-      final = (0, x, omega arith, refl, tt)
+      final = (0, x, omega arith, refl, tt);
     }
 
 -- weights on the three results are a price measure
@@ -60,9 +60,9 @@ results_form draw away home d0 d1 a0 a1 h0 h1 =
         few = omega arith;
         distinct = all_pairs_push R (x ∷ y ∷ []) z (all_pairs_push R (x ∷ []) y (all_pairs_push R [] x (λ i j d l m. absurd (omega arith)) (λ k d l. absurd (omega arith))) (All-cons (λ e. R e y) x [] (λ e. cc) (All-nil (λ e. R e y)))) (All-cons (λ e. R e z) x (y ∷ []) (λ e. cc) (All-cons (λ e. R e z) y [] (λ e. cc) (All-nil (λ e. R e z))));
         scores = All-cons S x (y ∷ z ∷ []) (omega arith, omega arith) (All-cons S y (z ∷ []) (omega arith, omega arith) (All-cons S z [] (omega arith, omega arith) (All-nil S)));
-        weights = All-cons W x (y ∷ z ∷ []) (d0, d1) (All-cons W y (z ∷ []) (a0, a1) (All-cons W z [] (h0, h1) (All-nil W)))
+        weights = All-cons W x (y ∷ z ∷ []) (d0, d1) (All-cons W y (z ∷ []) (a0, a1) (All-cons W z [] (h0, h1) (All-nil W)));
       };
-      final = (0, x, omega arith, refl, tt)
+      final = (0, x, omega arith, refl, tt);
     }
 
 -- a bet on another result loses
@@ -96,9 +96,9 @@ lost_home offer (Under _) e on other = absurd on
 -- all weight on a result at which every offer loses
 sure_right : (offers : List Offer) (h a : ℕ) → h ≤ 2 ^ 40 → a ≤ 2 ^ 40 → All (λ (offer : Offer). gain offer (Full h a) ≡ twice offer.odds.thousandths false) offers → IsRightCoherent offers ((Full h a, 1) ∷ [])
 sure_right offers h a p q lost = record {
-    price = sure_form h a p q;
-    no_gain = λ k d l. let e = lost k d l in omega (arith, ints, e)
-  }
+  price = sure_form h a p q;
+  no_gain = λ k d l. let e = lost k d l in omega (arith, ints, e);
+}
 
 pub unbacked_draw : (offers : List Offer) → IsResultSheet offers → IsUnbacked offers Draw → IsRightCoherent offers ((Full 0 0, 1) ∷ [])
 unbacked_draw offers sheet none =
@@ -186,7 +186,7 @@ priced_right offers t measure sheet best over (g, common, e) =
     let hf = lowest_fits g (home_weight t) t.draw t.away common.divides_third refl in
     let right : IsRightCoherent offers (on_results (draw_weight t / g) (away_weight t / g) (home_weight t / g)) = record {
       price = results_form (draw_weight t / g) (away_weight t / g) (home_weight t / g) df.0 df.1 af.0 af.1 hf.0 hf.1;
-      no_gain = λ k d l. no_gain t g (draw_weight t / g) (away_weight t / g) (home_weight t / g) gp (div-mul_cancel g common.divides_third) (div-mul_cancel g common.divides_first) (div-mul_cancel g common.divides_second) over (get_or offers k d) _ refl (sheet k d l).0 (best.home.greatest k d l) (best.draw.greatest k d l) (best.away.greatest k d l)
+      no_gain = λ k d l. no_gain t g (draw_weight t / g) (away_weight t / g) (home_weight t / g) gp (div-mul_cancel g common.divides_third) (div-mul_cancel g common.divides_first) (div-mul_cancel g common.divides_second) over (get_or offers k d) _ refl (sheet k d l).0 (best.home.greatest k d l) (best.draw.greatest k d l) (best.away.greatest k d l);
     } in
     let P : List (Outcome × ℕ) → Type 0 = λ m. IsRightCoherent offers m in
     subst P (sym e) right

@@ -25,29 +25,29 @@ passed_none offers selection n offer l e before other =
 
 pub passed_some : (offers : List Offer) (selection : Selection) (n : ℕ) (offer : Offer) (best : Best) → n < length offers → offer ≡ get_or offers n offer → IsBestBelow offers selection n best → (offer.selection ≡ selection → offer.odds.thousandths ≤ odds_of best) → IsBestBelow offers selection (n + 1) best
 passed_some offers selection n offer best l e before less = record {
-    stands = before.stands;
-    backs = before.backs;
-    greatest = AllWithin-more (λ o. o.selection ≡ selection → o.odds.thousandths ≤ odds_of best) offers 0 n before.greatest (at_read offers (λ o. o.selection ≡ selection → o.odds.thousandths ≤ odds_of best) n offer l e less);
-    first = before.first
-  }
+  stands = before.stands;
+  backs = before.backs;
+  greatest = AllWithin-more (λ o. o.selection ≡ selection → o.odds.thousandths ≤ odds_of best) offers 0 n before.greatest (at_read offers (λ o. o.selection ≡ selection → o.odds.thousandths ≤ odds_of best) n offer l e less);
+  first = before.first;
+}
 
 -- an offer that is taken: each offer before it has less odds
 pub taken : (offers : List Offer) (selection : Selection) (n : ℕ) (best : Best) → n < length offers → best.place ≡ n → best.offer ≡ get_or offers n best.offer → best.offer.selection ≡ selection → AllWithin (λ o. o.selection ≡ selection → o.odds.thousandths < odds_of best) offers 0 n → IsBestBelow offers selection (n + 1) best
 taken offers selection n best l p e backs less = record {
-    stands = slice_get_read offers (length offers) best.place best.offer refl (omega arith) (let Q : ℕ → Type 0 = λ k. best.offer ≡ get_or offers k best.offer in subst Q (sym p) e);
-    backs = backs;
-    greatest = AllWithin-more (λ o. o.selection ≡ selection → o.odds.thousandths ≤ odds_of best) offers 0 n (λ k d lo hi s. let h : (get_or offers k d).odds.thousandths < odds_of best = less k d lo hi s in omega arith) (at_read offers (λ o. o.selection ≡ selection → o.odds.thousandths ≤ odds_of best) n best.offer l e (λ _. omega arith));
-    first = let Q : ℕ → Type 0 = λ k. AllWithin (λ o. o.selection ≡ selection → o.odds.thousandths < odds_of best) offers 0 k in subst Q (sym p) less
-  }
+  stands = slice_get_read offers (length offers) best.place best.offer refl (omega arith) (let Q : ℕ → Type 0 = λ k. best.offer ≡ get_or offers k best.offer in subst Q (sym p) e);
+  backs = backs;
+  greatest = AllWithin-more (λ o. o.selection ≡ selection → o.odds.thousandths ≤ odds_of best) offers 0 n (λ k d lo hi s. let h : (get_or offers k d).odds.thousandths < odds_of best = less k d lo hi s in omega arith) (at_read offers (λ o. o.selection ≡ selection → o.odds.thousandths ≤ odds_of best) n best.offer l e (λ _. omega arith));
+  first = let Q : ℕ → Type 0 = λ k. AllWithin (λ o. o.selection ≡ selection → o.odds.thousandths < odds_of best) offers 0 k in subst Q (sym p) less;
+}
 
 -- what is known of all places
 pub IsBest-from_below : (offers : List Offer) (selection : Selection) (n : ℕ) (best : Best) → n ≡ length offers → IsBestBelow offers selection n best → IsBest offers selection best
 IsBest-from_below offers selection n best e h = record {
-    stands = h.stands;
-    backs = h.backs;
-    greatest = λ k d l. h.greatest k d (omega arith) (omega arith);
-    first = h.first
-  }
+  stands = h.stands;
+  backs = h.backs;
+  greatest = λ k d l. h.greatest k d (omega arith) (omega arith);
+  first = h.first;
+}
 
 -- an offer that is not taken leaves the best one
 pub kept : (offers : List Offer) (selection : Selection) (n : ℕ) (offer : Offer) (best : Option Best) → n < length offers → offer ≡ get_or offers n offer → BestSoFar offers selection n best → (Improves offer selection best → ⊥) → BestSoFar offers selection (n + 1) best

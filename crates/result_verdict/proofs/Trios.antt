@@ -135,10 +135,10 @@ wins_at offers t s sheet best w (Full g c) =
     ⊎_elim
     (λ (l : g < c). let e = total_away offers t s.home s.draw s.away g c best l in let k = w.away in omega (arith, ints, e))
     (λ (l : c ≤ g).
-      ⊎_elim
-      (λ (k : c < g). let e = total_home offers t s.home s.draw s.away g c best k in let k = w.home in omega (arith, ints, e))
-      (λ (k : g ≤ c). let e = total_draw offers t s.home s.draw s.away g c best (omega arith) in let k = w.draw in omega (arith, ints, e))
-      (cases_lt c g))
+    ⊎_elim
+    (λ (k : c < g). let e = total_home offers t s.home s.draw s.away g c best k in let k = w.home in omega (arith, ints, e))
+    (λ (k : g ≤ c). let e = total_draw offers t s.home s.draw s.away g c best (omega arith) in let k = w.draw in omega (arith, ints, e))
+    (cases_lt c g))
     (cases_lt g c)
 wins_at offers t s sheet best w (Abandoned g c) =
     let e = total_abandoned offers t s.home s.draw s.away g c sheet best in omega (arith, ints, e)
@@ -146,13 +146,13 @@ wins_at offers t s sheet best w (Abandoned g c) =
 -- the three stakes are an arbitrage exactly where each bet that wins returns more than all three stake
 pub arbitrage_from_Wins : (offers : List Offer) (t : Trio) (s : Floors) → IsResultSheet offers → AreBest offers t → s.home ≤ t.home.offer.limit → s.draw ≤ t.draw.offer.limit → s.away ≤ t.away.offer.limit → Wins t s → IsArbitrage offers (on_places (length offers) t s.home s.draw s.away)
 arbitrage_from_Wins offers t s sheet best lh ld la w = record {
-    within_limits = within_limits offers t s.home s.draw s.away best lh ld la;
-    wins = wins_at offers t s sheet best w
-  }
+  within_limits = within_limits offers t s.home s.draw s.away best lh ld la;
+  wins = wins_at offers t s sheet best w;
+}
 
 pub Wins-from_arbitrage : (offers : List Offer) (t : Trio) (s : Floors) → AreBest offers t → IsArbitrage offers (on_places (length offers) t s.home s.draw s.away) → Wins t s
 Wins-from_arbitrage offers t s best arb = record {
-    home = let e = total_home offers t s.home s.draw s.away 1 0 best (omega arith) in omega (arith, ints, e, arb.wins (Full 1 0));
-    draw = let e = total_draw offers t s.home s.draw s.away 0 0 best refl in omega (arith, ints, e, arb.wins (Full 0 0));
-    away = let e = total_away offers t s.home s.draw s.away 0 1 best (omega arith) in omega (arith, ints, e, arb.wins (Full 0 1))
-  }
+  home = let e = total_home offers t s.home s.draw s.away 1 0 best (omega arith) in omega (arith, ints, e, arb.wins (Full 1 0));
+  draw = let e = total_draw offers t s.home s.draw s.away 0 0 best refl in omega (arith, ints, e, arb.wins (Full 0 0));
+  away = let e = total_away offers t s.home s.draw s.away 0 1 best (omega arith) in omega (arith, ints, e, arb.wins (Full 0 1));
+}

@@ -25,7 +25,9 @@ impl Floors {
         ensures draw_within { result.draw ≤ trio.now.draw.offer.limit }
         ensures away_within { result.away ≤ trio.now.away.offer.limit }
     {
-        let most = most_return(&trio.home).min(most_return(&trio.draw).min(most_return(&trio.away)));
+        let most = most_return(&trio.home).min(most_return(&trio.draw).min(most_return(
+            &trio.away,
+        )));
         Floors {
             home: stake_for(most, &trio.home),
             draw: stake_for(most, &trio.draw),
@@ -47,7 +49,12 @@ impl Floors {
     }
 
     /// The stakes of all offers of the sheet: these three, and nothing on the others.
-    pub fn on_sheet(&self, alloc: Global, offers: &[Offer], trio: &Trio) -> Result<Vec<u32>, WantOfMemory>
+    pub fn on_sheet(
+        &self,
+        alloc: Global,
+        offers: &[Offer],
+        trio: &Trio,
+    ) -> Result<Vec<u32>, WantOfMemory>
         requires home { trio.now.home.place < length offers.now }
         requires draw { trio.now.draw.place < length offers.now }
         requires away { trio.now.away.place < length offers.now }

@@ -37,5 +37,5 @@ pub enum First {
     Unsettled1(Stakes),
 }
 
-
-
+#[cfg(test)]
+mod tests;

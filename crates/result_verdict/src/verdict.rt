@@ -42,11 +42,7 @@ pub fn first_finding(alloc: Global, sheet: &Sheet) -> Result<First, WantOfMemory
 }
 
 /// The finding where each result has an offer.
-fn finding_of_best(
-    alloc: Global,
-    offers: &[Offer],
-    best: &Trio,
-) -> Result<First, WantOfMemory>
+fn finding_of_best(alloc: Global, offers: &[Offer], best: &Trio) -> Result<First, WantOfMemory>
     requires results { IsResultSheet offers.now }
     requires best { AreBest offers.now best.now }
     ensures exact { IfOk result (λ finding. IsFirstFinding offers.now finding) }
