@@ -1,17 +1,16 @@
 -- What a bet on the result gains, with a book that gives the stakes back at an abandonment: it wins at its
 -- own result, loses at the two others, and comes back at an abandonment.
-use Rattle.std.proofs.Common.{◌≡◌, ◌≤◌, ◌<◌, ◌+◌, ◌*◌, ◌/◌, ℕ, zero, suc, Bool, true, false, arith, sym, ◌∙◌, ap, refl, ltb, eqb}
-use Rattle.std.specs.Prelude.{ℤ, pos, negsuc, ◌+ℤ◌, ◌-ℤ◌, ◌*ℤ◌, ◌≤ℤ◌, unsigned_abs, nat_lt, ◌==◌}
+use Rattle.std.proofs.Common.{◌≡◌, ◌*◌, ◌/◌, ℕ, Bool, true, false, arith, ◌∙◌, ap, refl}
+use Rattle.std.specs.Prelude.{ℤ, pos, ◌+ℤ◌, ◌-ℤ◌, unsigned_abs, nat_lt, ◌==◌}
 use Rattle.std.proofs.lemmas.Int.{ints}
 use Rattle.std.proofs.Math.Nat.{mul-div-mul_left, mul-div_cancel}
 use Rattle.scan_types.specs.declared.offer.Offer.{Offer}
-use Rattle.scan_types.specs.declared.selection.Selection.{Selection}
-use Rattle.scan_types.specs.declared.selection.Selection.TheVariants.{Home, Draw, Away, HandicapHome, HandicapAway, Over, Under}
+use Rattle.scan_types.specs.declared.selection.Selection.TheVariants.{Home, Draw, Away}
 use Rattle.scan_types.specs.declared.rule.VoidRule.TheVariants.{Void}
 use Rattle.scan_types.specs.declared.outcome.Outcome.{Outcome}
 use Rattle.scan_types.specs.declared.outcome.Outcome.TheVariants.{Full, Abandoned}
 use Rattle.settlement_definitions.specs.Legs.{win_if}
-use Rattle.settlement_definitions.specs.Gain.{leg_gain, gain, paid, net}
+use Rattle.settlement_definitions.specs.Gain.{leg_gain, gain, net}
 
 -- the gain of two equal legs that win or lose
 abbrev pub twice : ℕ → Bool → ℤ

@@ -1,5 +1,5 @@
 -- The common divisor of the weights is above 0.
-use Rattle.std.proofs.Common.{◌≡◌, ◌≤◌, ◌<◌, ◌*◌, ◌+◌, ◌/◌, ℕ, arith}
+use Rattle.std.proofs.Common.{◌≡◌, ◌≤◌, ◌<◌, ◌*◌, ℕ, arith}
 use Rattle.std.proofs.Math.Nat.{mul-pos, pos_of_dvd_of_pos}
 use Prim.Native.Nat.{◌∣◌}
 

@@ -1,5 +1,5 @@
 -- Over the three best offers, the scaled floors are those of the same return.
-use Rattle.std.proofs.Common.{◌≡◌, ◌≤◌, ◌<◌, ◌*◌, ◌/◌, ℕ, arith, sym, ◌∙◌, ap, refl}
+use Rattle.std.proofs.Common.{◌≡◌, ◌<◌, ◌*◌, ◌/◌, ℕ, arith, refl}
 use Rattle.std.specs.Prelude.{min}
 use Rattle.result_verdict.specs.declared.best.Best.{Best}
 use Rattle.result_verdict.specs.declared.best.Trio.{Trio}
@@ -24,7 +24,7 @@ most_is t home draw away least r h d a l e = cc
 odds_pos : (b : Best) → 0 < odds_of b
 odds_pos b = let h = b.offer.odds.at_least in omega arith
 
-weight_pos : (b d : Best) → 0 < odds_of b * odds_of d
+pub weight_pos : (b d : Best) → 0 < odds_of b * odds_of d
 weight_pos b d = product_pos (odds_of b) (odds_of d) b.offer.odds.at_least d.offer.odds.at_least
 
 pub even_home : (t : Trio) → most t / odds_of t.home ≡ floor_of t (home_weight t)

@@ -7,3 +7,5 @@ pub mod Bets
 pub mod Trios
 pub mod Prices
 pub mod Outcomes
+pub mod Uniques
+pub mod Binding

@@ -12,10 +12,9 @@ use Rattle.result_verdict.specs.declared.best.Trio.{Trio}
 use Rattle.result_verdict.specs.declared.floors.Floors.{Floors}
 use Rattle.result_verdict.specs.Best.{IsBest, AreBest, IsResultSheet, IsUnbacked}
 use Rattle.result_verdict.specs.Weights.{home_weight, draw_weight, away_weight, IsUnderround}
-use Rattle.result_verdict.specs.Floors.{floor_of, on_places, scaled_floors, Wins}
+use Rattle.result_verdict.specs.Floors.{floor_of, on_places, Wins}
 use Rattle.result_verdict.specs.Findings.{AreFloors, IsSure}
 use Rattle.result_verdict.proofs.Trios.{arbitrage_from_Wins, Wins-from_arbitrage, best_has}
-use Rattle.result_verdict.proofs.Prices.{unbacked_draw, unbacked_away, unbacked_home}
 
 pub floors_found : (offers : List Offer) (t : Trio) (s : Floors) (stakes : List ℕ) → AreBest offers t → IsUnderround t → s.home ≡ floor_of t (home_weight t) → s.draw ≡ floor_of t (draw_weight t) → s.away ≡ floor_of t (away_weight t) → stakes ≡ on_places (length offers) t s.home s.draw s.away → AreFloors offers stakes
 floors_found offers t s stakes best under h d a e = (t, best, under, e ∙ rw (h, d, a) refl)
@@ -29,7 +28,7 @@ no_arbitrage_found offers t s stakes best e lost arb =
     let P : List ℕ → Type 0 = λ m. IsArbitrage offers m in lost (Wins-from_arbitrage offers t s best (subst P e arb))
 
 -- where a selection has a best offer, an offer backs it
-backed : (offers : List Offer) (s : Selection) (b : Best) → IsBest offers s b → IsUnbacked offers s → ⊥
+pub backed : (offers : List Offer) (s : Selection) (b : Best) → IsBest offers s b → IsUnbacked offers s → ⊥
 backed offers s b best none = best_has (λ (o : Offer). o.selection ≡ s → ⊥) offers s b best none best.backs
 
 pub sure_draw : (offers : List Offer) (measure : List (Outcome × ℕ)) → IsUnbacked offers Draw → measure ≡ (Full 0 0, 1) ∷ [] → IsSure offers measure

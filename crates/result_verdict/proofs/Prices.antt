@@ -1,6 +1,6 @@
 -- Measures on the three results: their form, and what an offer gains on average.
-use Rattle.std.proofs.Common.{◌≡◌, ◌≢◌, ◌≤◌, ◌<◌, ◌+◌, ◌-◌, ◌*◌, ◌/◌, ◌^◌, ℕ, zero, suc, Bool, true, false, List, [], ◌∷◌, length, get_or, arith, sym, ◌∙◌, ap, refl, subst}
-use Rattle.std.specs.Prelude.{ℤ, pos, negsuc, ◌+ℤ◌, ◌-ℤ◌, ◌*ℤ◌, ◌≤ℤ◌, All, AllPairs, Any}
+use Rattle.std.proofs.Common.{◌≡◌, ◌≢◌, ◌≤◌, ◌<◌, ◌+◌, ◌-◌, ◌*◌, ◌/◌, ◌^◌, ℕ, zero, suc, false, List, [], ◌∷◌, get_or, arith, sym, ◌∙◌, ap, refl, subst}
+use Rattle.std.specs.Prelude.{ℤ, pos, negsuc, ◌+ℤ◌, ◌-ℤ◌, ◌*ℤ◌, ◌≤ℤ◌, All}
 use Rattle.std.proofs.lemmas.Int.{ints}
 use Rattle.std.proofs.lemmas.List.Elements.{All-nil, All-cons}
 use Rattle.std.proofs.lemmas.List.Quantifiers.{all_pairs_push}
@@ -11,15 +11,15 @@ use Rattle.scan_types.specs.declared.offer.Offer.{Offer}
 use Rattle.scan_types.specs.declared.selection.Selection.{Selection}
 use Rattle.scan_types.specs.declared.selection.Selection.TheVariants.{Home, Draw, Away, HandicapHome, HandicapAway, Over, Under}
 use Rattle.scan_types.specs.declared.outcome.Outcome.{Outcome}
-use Rattle.scan_types.specs.declared.outcome.Outcome.TheVariants.{Full, Abandoned}
+use Rattle.scan_types.specs.declared.outcome.Outcome.TheVariants.{Full}
 use Rattle.settlement_definitions.specs.Laws.{IsOnResult}
 use Rattle.settlement_definitions.specs.Gain.{gain}
-use Rattle.settlement_definitions.specs.Measure.{mean, HasScoresInRange, IsFinal, IsMeasure, IsPriceMeasure}
+use Rattle.settlement_definitions.specs.Measure.{mean, HasScoresInRange, IsPriceMeasure}
 use Rattle.settlement_definitions.specs.Verdicts.{IsRightCoherent}
 use Rattle.result_verdict.specs.declared.best.Best.{Best}
 use Rattle.result_verdict.specs.declared.best.Trio.{Trio}
-use Rattle.result_verdict.specs.Best.{IsBest, AreBest, IsResultOffer, IsResultSheet, IsUnbacked, odds_of}
-use Rattle.result_verdict.specs.Weights.{home_weight, draw_weight, away_weight, IsUnderround, IsGcdOfThree, on_results, IsWeighing}
+use Rattle.result_verdict.specs.Best.{AreBest, IsResultSheet, IsUnbacked, odds_of}
+use Rattle.result_verdict.specs.Weights.{home_weight, draw_weight, away_weight, IsUnderround, on_results, IsWeighing}
 use Rattle.result_verdict.proofs.Bets.{twice, gain_home, gain_draw, gain_away}
 use Rattle.result_verdict.proofs.Divisors.{product_pos, divisor_pos}
 

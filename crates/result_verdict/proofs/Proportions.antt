@@ -1,6 +1,6 @@
 -- Stakes in proportion to the weights of their results are those that return the same.
-use Rattle.std.proofs.Common.{◌≡◌, ◌≤◌, ◌<◌, ◌+◌, ◌*◌, ◌/◌, ℕ, arith, sym, ◌∙◌, ap, refl, inl, inr, ⊎_elim}
-use Rattle.std.specs.Prelude.{min, ◌⊎◌}
+use Rattle.std.proofs.Common.{◌≡◌, ◌≤◌, ◌<◌, ◌*◌, ◌/◌, ℕ, arith, sym, ◌∙◌, ap, ⊎_elim}
+use Rattle.std.specs.Prelude.{min}
 use Rattle.std.proofs.Math.Nat.{mul-div-mul_left, mul-div_cancel, div-mul-le_self, min-eq_left, min-eq_right}
 use Rattle.std.proofs.lemmas.Nat.{le-div}
 use Rattle.std.proofs.lemmas.Bool.{cases_lt}

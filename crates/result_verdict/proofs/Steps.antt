@@ -1,7 +1,7 @@
 -- The walk to the best offer on a selection: what is known of the offers that it has passed.
 use Rattle.std.proofs.Common.{◌≡◌, ◌≢◌, ◌≤◌, ◌<◌, ◌+◌, ℕ, List, Option, None, Some, arith, length, get_or, sym, subst, refl}
-use Rattle.std.specs.List.{All, AllWithin, slice_get, HoldsAt}
-use Rattle.std.proofs.lemmas.List.Elements.{AllWithin-more, AllWithin-none, AllWithin-from_all, All-from_all_within, at_read}
+use Rattle.std.specs.List.{AllWithin, slice_get}
+use Rattle.std.proofs.lemmas.List.Elements.{AllWithin-more, at_read}
 use Rattle.std.proofs.lemmas.Option.{slice_get_read}
 use Rattle.scan_types.specs.declared.offer.Offer.{Offer}
 use Rattle.scan_types.specs.declared.selection.Selection.{Selection}

@@ -1,9 +1,8 @@
 -- A sum over the offers, each with its own number: after a write, and where all numbers are 0.
-use Rattle.std.proofs.Common.{◌≡◌, ◌≢◌, ◌≤◌, ◌<◌, ◌+◌, ℕ, zero, suc, List, [], ◌∷◌, length, get_or, set, replicate, None, Some, arith, sym, ◌∙◌, ap, refl}
+use Rattle.std.proofs.Common.{◌≡◌, ℕ, zero, suc, List, [], ◌∷◌, length, get_or, set, replicate, Some, arith, refl}
 use Rattle.std.specs.Prelude.{ℤ, pos, ◌+ℤ◌, slice_get}
 use Rattle.std.specs.List.{AllZip}
 use Rattle.std.proofs.lemmas.Int.{ints}
-use Rattle.std.proofs.Math.ListN.{length-set}
 use Rattle.scan_types.specs.declared.offer.Offer.{Offer}
 use Rattle.settlement_definitions.specs.Arbitrage.{sum_over}
 

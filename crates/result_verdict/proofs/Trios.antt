@@ -1,6 +1,6 @@
 -- The stakes on the three best offers, and what they win together.
-use Rattle.std.proofs.Common.{◌≡◌, ◌≢◌, ◌≤◌, ◌<◌, ◌+◌, ◌*◌, ◌/◌, ℕ, zero, suc, Bool, true, false, List, length, get_or, set, replicate, Some, arith, sym, ◌∙◌, ap, refl, subst, inl, inr, ⊎_elim}
-use Rattle.std.specs.Prelude.{ℤ, pos, negsuc, ◌+ℤ◌, ◌-ℤ◌, ◌≤ℤ◌, slice_get, nat_lt, ◌==◌}
+use Rattle.std.proofs.Common.{◌≡◌, ◌≢◌, ◌≤◌, ◌<◌, ◌+◌, ℕ, true, false, List, length, get_or, set, replicate, Some, arith, sym, ◌∙◌, ap, refl, subst, ⊎_elim}
+use Rattle.std.specs.Prelude.{ℤ, pos, ◌+ℤ◌, ◌-ℤ◌, ◌≤ℤ◌, slice_get, nat_lt, ◌==◌}
 use Rattle.std.specs.List.{AllZip, All}
 use Rattle.std.proofs.lemmas.Int.{ints}
 use Rattle.std.proofs.lemmas.Option.{slice_get_within, get_or_from_slice_get}
@@ -13,12 +13,12 @@ use Rattle.scan_types.specs.declared.selection.Selection.{Selection}
 use Rattle.scan_types.specs.declared.selection.Selection.TheVariants.{Home, Draw, Away}
 use Rattle.scan_types.specs.declared.outcome.Outcome.{Outcome}
 use Rattle.scan_types.specs.declared.outcome.Outcome.TheVariants.{Full, Abandoned}
-use Rattle.settlement_definitions.specs.Gain.{gain, net}
+use Rattle.settlement_definitions.specs.Gain.{net}
 use Rattle.settlement_definitions.specs.Arbitrage.{sum_over, total_net, need, IsArbitrage}
 use Rattle.result_verdict.specs.declared.best.Best.{Best}
 use Rattle.result_verdict.specs.declared.best.Trio.{Trio}
 use Rattle.result_verdict.specs.declared.floors.Floors.{Floors}
-use Rattle.result_verdict.specs.Best.{IsBest, AreBest, IsResultOffer, IsResultSheet, odds_of}
+use Rattle.result_verdict.specs.Best.{IsBest, AreBest, IsResultOffer, IsResultSheet}
 use Rattle.result_verdict.specs.Floors.{on_places, returned, Wins}
 use Rattle.result_verdict.proofs.Sums.{sum_over-set, sum_over-zeros, AllZip-set, AllZip-zeros}
 use Rattle.result_verdict.proofs.Bets.{gain_home, gain_draw, gain_away, gain_abandoned, net_won, net_lost, net_returned, net_nothing}

@@ -2,3 +2,4 @@ pub mod Best
 pub mod Weights
 pub mod Floors
 pub mod Findings
+pub mod Laws

@@ -7,6 +7,7 @@
 //! - `weights`, `divisor`: the weights of the three results, in lowest terms.
 //! - `floors`: the stakes that return the same at each result, rounded down to whole units.
 //! - `verdict`: the finding itself, `first_finding`.
+//! - `laws`: a sheet has one finding, and which limit scales the floors.
 //!
 //! `first_finding` walks the offers three times, once for the best odds on each result, and then makes
 //! a fixed number of steps. It takes memory for the certificate alone.
@@ -15,6 +16,7 @@
 mod best;
 mod divisor;
 mod floors;
+pub mod laws;
 mod measure;
 mod stakes;
 mod verdict;

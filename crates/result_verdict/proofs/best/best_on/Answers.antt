@@ -1,4 +1,4 @@
-use Rattle.std.proofs.Common.{rules, arith}
+use Rattle.std.proofs.Common.{rules}
 use Rattle.result_verdict.proofs.Steps.{kept, takes}
 use Rattle.result_verdict.proofs.best.best_on.Goals as goal
 use Rattle.result_verdict.proofs.best.best_on.Goals.{then-improves, else-improves}

@@ -1,6 +1,6 @@
-use Rattle.std.proofs.Common.{◌≡◌, ℕ, ◌/◌, ◌∙◌, ap}
+use Rattle.std.proofs.Common.{ℕ, ◌/◌, ◌∙◌, ap}
 use Rattle.result_verdict.specs.Best.{odds_of}
-use Rattle.result_verdict.proofs.Evens.{even_home, even_draw, even_away, most, most_is}
+use Rattle.result_verdict.proofs.Evens.{even_home, even_draw, even_away, most_is}
 use Rattle.result_verdict.proofs.floors.Floors.of.Goals as goal
 
 pub returns-clause-home : goal.returns-clause-home
