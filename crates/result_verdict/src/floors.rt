@@ -25,9 +25,8 @@ impl Floors {
         ensures draw_within { result.draw ≤ trio.now.draw.offer.limit }
         ensures away_within { result.away ≤ trio.now.away.offer.limit }
     {
-        let most = most_return(&trio.home).min(most_return(&trio.draw).min(most_return(
-            &trio.away,
-        )));
+        let least = most_return(&trio.draw).min(most_return(&trio.away));
+        let most = most_return(&trio.home).min(least);
         Floors {
             home: stake_for(most, &trio.home),
             draw: stake_for(most, &trio.draw),
