@@ -1,0 +1,5 @@
+pub mod Best
+pub mod Weights
+pub mod Floors
+pub mod Findings
+pub mod Laws

@@ -1,0 +1,10 @@
+pub mod Legs
+pub mod LegSigns
+pub mod Decided
+pub mod LaterGoals
+pub mod Abandonment
+pub mod Gain
+pub mod Arbitrage
+pub mod Measure
+pub mod Verdicts
+pub mod Laws

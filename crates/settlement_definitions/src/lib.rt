@@ -1,0 +1,16 @@
+//! What the settlement rules of football books mean, as definitions that know no code, and their laws.
+//!
+//! - `specs/Legs`: the two legs of a bet, and how a leg goes at a final score.
+//! - `specs/Decided`, `specs/Abandonment`: what is decided before the end, and the three rules on an
+//!   abandoned match.
+//! - `specs/Gain`: gain, payment and net of a bet.
+//! - `specs/Arbitrage`, `specs/Measure`, `specs/Verdicts`: arbitrage, price measures, right verdicts.
+//! - `laws`: what follows from the definitions, each as the contract of a function that does nothing.
+//!
+//! Scores range over all whole numbers here.
+#![tactic(auto)]
+
+pub mod laws;
+mod leg_result;
+
+pub use leg_result::LegResult;
