@@ -1,10 +1,9 @@
 -- The three results have the numbers 0, 1 and 2.
-use Rattle.std.proofs.Common.{◌<◌, arith, lit<}
+use Rattle.std.proofs.Common.{◌<◌, lit<}
 use Rattle.scan_types.specs.declared.selection.Selection.{Selection}
 use Rattle.scan_types.specs.declared.selection.Selection.TheVariants.{Home, Draw, Away, HandicapHome, HandicapAway, Over, Under}
 use Rattle.scan_types.specs.Selections.{selection_number}
 use Rattle.feed_definitions.specs.Views.{IsResult}
-use Rattle.result_verdict.specs.Best.{IsOnResult}
 
 pub number_of_result : (selection : Selection) → IsResult selection → selection_number selection < 3
 number_of_result Home h = lit< tt
@@ -14,12 +13,3 @@ number_of_result (HandicapHome line) h = absurd h
 number_of_result (HandicapAway line) h = absurd h
 number_of_result (Over line) h = absurd h
 number_of_result (Under line) h = absurd h
-
-pub IsOnResult-from_number : (selection : Selection) → selection_number selection < 3 → IsOnResult selection
-IsOnResult-from_number Home h = tt
-IsOnResult-from_number Draw h = tt
-IsOnResult-from_number Away h = tt
-IsOnResult-from_number (HandicapHome line) h = omega arith
-IsOnResult-from_number (HandicapAway line) h = omega arith
-IsOnResult-from_number (Over line) h = omega arith
-IsOnResult-from_number (Under line) h = omega arith

@@ -5,6 +5,7 @@ ghost use Rattle.match_sheets.specs.Plain.{IsPlainFeed};
 use crate::matches_of;
 use feed_definitions::{Accepted, Change, Header};
 use report_definitions::{MatchPart, ReadFeed};
+use result_verdict::First;
 use scan_types::{Name, Odds, Selection, VoidRule};
 use std::alloc::Global;
 use std::process::Abort;
@@ -55,13 +56,20 @@ fn quote(
 /// Feed, selection number and odds of the offer at this place of the sheet.
 fn terms(part: &MatchPart, place: usize) -> Option<(u8, u8, u32)> {
     let offer = part.sheet.offers().get(place)?;
-    Some((
-        offer.feed,
-        offer.selection.number(),
-        offer.odds.thousandths,
-    ))
+    Some((offer.feed, offer.selection.number(), offer.odds.thousandths))
 }
 
+/// Whether the finding is an arbitrage with these stakes.
+fn is_arbitrage(part: &MatchPart, stakes: &[u32]) -> bool {
+    match &part.finding {
+        First::Arb(found) => found.items() == stakes,
+        _ => false,
+    }
+}
+
+// The weights of the best odds 2.100, 4.000 and 4.500 are 18.00, 9.45 and 8.40: beside 5,000 on the
+// home win they give 2,625 on the draw and 2,333 on the away win, which each return at least 10,498
+// for the 9,958 staked.
 #[test]
 fn matches_rise_by_name_and_the_last_quote_stands(rt: HostRuntime) -> Result<(), Fail> {
     let alloc = rt.alloc();
@@ -81,9 +89,11 @@ fn matches_rise_by_name_and_the_last_quote_stands(rt: HostRuntime) -> Result<(),
     assert_eq!(rt; terms(&parts[0], 1), Some((0, 2, 4_500)));
     assert_eq!(rt; terms(&parts[0], 2), Some((1, 1, 4_000)));
     assert_eq!(rt; terms(&parts[0], 3), None);
+    assert!(rt; is_arbitrage(&parts[0], &[5_000, 2_333, 2_625]));
     assert!(rt; parts[1].match_name == beta);
     assert_eq!(rt; terms(&parts[1], 0), Some((0, 1, 3_300)));
     assert_eq!(rt; terms(&parts[1], 1), None);
+    assert!(rt; matches!(&parts[1].finding, First::Coherent(_)));
     Ok(())
 }
 
