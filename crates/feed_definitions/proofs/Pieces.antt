@@ -1,7 +1,7 @@
 -- A text as lines: what further bytes do to them.
-use Rattle.std.proofs.Common.{◌≡◌, ℕ, suc, zero, ◌+◌, ◌-◌, ◌<◌, ◌≤◌, Bool, true, false, cond, List, [], ◌∷◌, ◌++◌, length, take, refl, sym, ap, ◌∙◌, arith, append_assoc}
+use Rattle.std.proofs.Common.{◌≡◌, ℕ, suc, ◌-◌, true, false, cond, List, [], ◌∷◌, ◌++◌, length, take, refl, sym, ap, ◌∙◌, arith, append-nil}
 use Rattle.std.specs.Prelude.{slice_index_or}
-use Rattle.std.specs.List.{slice_split, onto_first}
+use Rattle.std.specs.List.{onto_first}
 use Rattle.feed_definitions.specs.Lines.{is_line_feed, pieces, ended_lines, unended}
 
 -- all but the last
@@ -56,9 +56,10 @@ onto_first_has x (p ∷ ps) = record { first = x ∷ p; others = ps; is = refl }
 
 pub has_piece : (text : List ℕ) → HasPiece (pieces text)
 has_piece [] = record { first = []; others = []; is = refl }
-has_piece (x ∷ xs) = elim (is_line_feed x) as (λ b. HasPiece (cond b ([] ∷ pieces xs) (onto_first x (pieces xs))))
-    [ true ↦ record { first = []; others = pieces xs; is = refl }
-    | false ↦ onto_first_has x (pieces xs) ]
+has_piece (x ∷ xs) = elim (is_line_feed x) as (λ b. HasPiece (cond b ([] ∷ pieces xs) (onto_first x (pieces xs)))) [
+  | true ↦ record { first = []; others = pieces xs; is = refl }
+  | false ↦ onto_first_has x (pieces xs)
+]
 
 -- a line feed, and then more pieces
 front_after : (p : List ℕ) (ps : List (List ℕ)) → HasPiece ps → front (p ∷ ps) ≡ p ∷ front ps
@@ -82,9 +83,10 @@ pieces_joined [] more = sym (onto_nothing (pieces more))
 pieces_joined (x ∷ xs) more =
     let again = pieces_joined xs more in
     elim (is_line_feed x) as (λ b. cond b ([] ∷ pieces (xs ++ more)) (onto_first x (pieces (xs ++ more)))
-        ≡ front (cond b ([] ∷ pieces xs) (onto_first x (pieces xs))) ++ onto (end (cond b ([] ∷ pieces xs) (onto_first x (pieces xs)))) (pieces more))
-    [ true ↦ rw (front_after [] (pieces xs) (has_piece xs), end_after [] (pieces xs) (has_piece xs)) (ap (λ l. [] ∷ l) again)
-    | false ↦ ap (onto_first x) again ∙ onto_first_joins x (pieces xs) (pieces more) (has_piece xs) (has_piece more) ]
+    ≡ front (cond b ([] ∷ pieces xs) (onto_first x (pieces xs))) ++ onto (end (cond b ([] ∷ pieces xs) (onto_first x (pieces xs)))) (pieces more)) [
+      | true ↦ rw (front_after [] (pieces xs) (has_piece xs), end_after [] (pieces xs) (has_piece xs)) (ap (λ l. [] ∷ l) again)
+      | false ↦ ap (onto_first x) again ∙ onto_first_joins x (pieces xs) (pieces more) (has_piece xs) (has_piece more)
+    ]
 
 front_append : (xs ys : List (List ℕ)) → HasPiece ys → front (xs ++ ys) ≡ xs ++ front ys
 front_append [] ys h = refl
@@ -116,3 +118,46 @@ unended_joined text more =
     ∙ ap end (pieces_joined text more)
     ∙ end_append (front (pieces text)) (onto (end (pieces text)) (pieces more)) (onto_has (end (pieces text)) (pieces more) (has_piece more))
     ∙ sym (ap (λ u. end (onto u (pieces more))) (end_is (pieces text)))
+
+-- a line, its line feed, and what follows
+pub pieces_line : (line others : List ℕ) → pieces line ≡ line ∷ [] → pieces (line ++ 10 ∷ others) ≡ line ∷ pieces others
+pieces_line line others one =
+    pieces_joined line (10 ∷ others)
+    ∙ ap (λ ps. front ps ++ onto (end ps) ([] ∷ pieces others)) one
+    ∙ ap (λ l. l ∷ pieces others) (append-nil line)
+
+-- two texts without a line feed, one after the other
+pub one_line_joined : (first second : List ℕ) → pieces first ≡ first ∷ [] → pieces second ≡ second ∷ [] → pieces (first ++ second) ≡ (first ++ second) ∷ []
+one_line_joined first second one two =
+    pieces_joined first second ∙ ap (λ ps. front ps ++ onto (end ps) (pieces second)) one ∙ ap (onto first) two
+
+-- after whole lines one more line is ended
+pub ended_after : (before line others : List ℕ) → unended before ≡ [] → pieces line ≡ line ∷ [] →
+    ended_lines (before ++ (line ++ 10 ∷ others)) ≡ ended_lines before ++ line ∷ ended_lines others
+ended_after before line others whole one =
+    ended_joined before (line ++ 10 ∷ others)
+    ∙ ap (λ u. ended_lines before ++ front (onto u (pieces (line ++ 10 ∷ others)))) whole
+    ∙ ap (λ ps. ended_lines before ++ front ps) (onto_nothing (pieces (line ++ 10 ∷ others)) ∙ pieces_line line others one)
+    ∙ ap (λ ps. ended_lines before ++ ps) (front_after line (pieces others) (has_piece others) ∙ ap (λ ps. line ∷ ps) (sym (front_is (pieces others))))
+
+pub unended_after : (before line others : List ℕ) → unended before ≡ [] → pieces line ≡ line ∷ [] →
+    unended (before ++ (line ++ 10 ∷ others)) ≡ unended others
+unended_after before line others whole one =
+    unended_joined before (line ++ 10 ∷ others)
+    ∙ ap (λ u. end (onto u (pieces (line ++ 10 ∷ others)))) whole
+    ∙ ap end (onto_nothing (pieces (line ++ 10 ∷ others)) ∙ pieces_line line others one)
+    ∙ end_after line (pieces others) (has_piece others)
+    ∙ sym (end_is (pieces others))
+
+-- after whole lines a text without a line feed is what is not ended
+pub ended_open : (before rest : List ℕ) → unended before ≡ [] → pieces rest ≡ rest ∷ [] → ended_lines (before ++ rest) ≡ ended_lines before
+ended_open before rest whole one =
+    ended_joined before rest
+    ∙ ap (λ ps. ended_lines before ++ front (onto (unended before) ps)) one
+    ∙ append-nil (ended_lines before)
+
+pub unended_open : (before rest : List ℕ) → unended before ≡ [] → pieces rest ≡ rest ∷ [] → unended (before ++ rest) ≡ rest
+unended_open before rest whole one =
+    unended_joined before rest
+    ∙ ap (λ ps. end (onto (unended before) ps)) one
+    ∙ ap (λ u. u ++ rest) whole

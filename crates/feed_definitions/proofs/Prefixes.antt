@@ -1,8 +1,8 @@
 -- The laws of the feed text.
-use Rattle.std.proofs.Common.{◌≡◌, ℕ, suc, zero, ◌+◌, ◌-◌, ◌<◌, ◌≤◌, Bool, true, false, cond, eqb, ltb, ◌&&◌, List, [], ◌∷◌, ◌++◌, length, take, refl, sym, ap, ◌∙◌, arith, length-append, append-nil}
+use Rattle.std.proofs.Common.{◌≡◌, ℕ, ◌<◌, ◌≤◌, Bool, false, cond, eqb, ltb, ◌&&◌, List, [], ◌∷◌, ◌++◌, length, take, sym, ap, ◌∙◌, arith, length-append, append-nil}
 use Rattle.std.proofs.lemmas.Bool.Decides.{nat_tests}
 use Rattle.feed_definitions.specs.Lines.{pieces, ended_lines, unended}
-use Rattle.feed_definitions.specs.Plain.{FeedStep, Ended, NotPlain, most_line_bytes, ending, steps, line_steps}
+use Rattle.feed_definitions.specs.Plain.{Ended, NotPlain, most_line_bytes, ending, steps, line_steps}
 use Rattle.feed_definitions.proofs.Pieces.{HasPiece, has_piece, onto, front, end, ended_joined, unended_joined}
 use Rattle.feed_definitions.proofs.Walk.{line_steps_stay, line_steps_stop, line_steps_ending, book_of_long, quote_of_long}
 
@@ -27,11 +27,11 @@ long_after text [] long h = absurd (let e = h.is in cc)
 long_after text (p ∷ []) long h =
     let longer : most_line_bytes < length (unended text ++ p) = omega (arith, length-append (unended text) p) in
     rw append-nil (line_steps_ending (ending false (unended text ++ p)) (ending false (unended text)) (ended_lines text)
-        (λ m. ending_not_plain (unended text ++ p) m (omega arith) ∙ sym (ending_not_plain (unended text) m (omega arith))))
+    (λ m. ending_not_plain (unended text ++ p) m (omega arith) ∙ sym (ending_not_plain (unended text) m (omega arith))))
 long_after text (p ∷ q ∷ ps) long h =
     let longer : most_line_bytes < length (unended text ++ p) = omega (arith, length-append (unended text) p) in
     line_steps_stop (ending false (unended text)) (ending false (end (q ∷ ps))) (ended_lines text) (front (q ∷ ps)) (unended text ++ p)
-        (λ m. ending_not_plain (unended text) m (omega arith)) (book_of_long (unended text ++ p) longer) (quote_of_long (unended text ++ p) longer)
+    (λ m. ending_not_plain (unended text) m (omega arith)) (book_of_long (unended text ++ p) longer) (quote_of_long (unended text ++ p) longer)
 
 pub long_stays : (text more : List ℕ) → most_line_bytes < length (unended text) → steps false (text ++ more) ≡ steps false text
 unfolding steps

@@ -1,5 +1,5 @@
 -- The plain feed text: a header of a book that voids abandoned matches, and quotes on the result of a match.
-use Rattle.std.specs.Prelude.{ℕ, zero, suc, ◌+◌, Bool, true, false, not, ◌==◌, ◌&&◌, ◌||◌, nat_lt, nat_le, List, [], ◌∷◌, ◌++◌, length, map, filter, Option, Some, None, codes, if◌then◌else◌}
+use Rattle.std.specs.Prelude.{ℕ, suc, Bool, true, false, not, ◌==◌, ◌&&◌, ◌||◌, nat_lt, nat_le, List, [], ◌∷◌, ◌++◌, length, map, filter, Option, Some, None, codes, if◌then◌else◌}
 use Rattle.std.specs.List.{slice_split, list_any}
 use Rattle.std.specs.Str.{bytes_eq}
 use Rattle.scan_types.specs.declared.selection.Selection.{Selection}
@@ -108,17 +108,19 @@ pub data FeedStep : Type 0 where
 unfoldable pub quote_steps : (ℕ → FeedStep) → List LineText → ℕ → List (List ℕ) → List FeedStep
 quote_steps ending before n [] = ending n ∷ []
 quote_steps ending before n (line ∷ lines) =
-    elim (plain_quote before n line)
-    [ None ↦ NotPlain n ∷ []
-    | Some quote ↦ Accepts n quote ∷ quote_steps ending (before ++ quote ∷ []) (suc n) lines ]
+    elim (plain_quote before n line) [
+      | None ↦ NotPlain n ∷ []
+      | Some quote ↦ Accepts n quote ∷ quote_steps ending (before ++ quote ∷ []) (suc n) lines
+    ]
 
 -- the steps of all lines
 unfoldable pub line_steps : (ℕ → FeedStep) → List (List ℕ) → List FeedStep
 line_steps ending [] = ending 1 ∷ []
 line_steps ending (line ∷ lines) =
-    elim (book_of line)
-    [ None ↦ NotPlain 1 ∷ []
-    | Some book ↦ Book book ∷ quote_steps ending [] 2 lines ]
+    elim (book_of line) [
+      | None ↦ NotPlain 1 ∷ []
+      | Some book ↦ Book book ∷ quote_steps ending [] 2 lines
+    ]
 
 -- what ends a feed whose ended lines are plain, with the number that a further line would have: a fault of reading; else the end, where
 -- at least one line stands and nothing follows the last line feed; else that line is not plain

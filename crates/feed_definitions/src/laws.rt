@@ -8,12 +8,10 @@ ghost use Rattle.feed_definitions.specs.Plain.{steps, most_line_bytes};
 pub fn steps_before_stay()
     ensures { (text more : List ℕ) (failed later : Bool) (n : ℕ) → n ≤ length (ended_lines text) →
         take n (steps later (text ++ more)) ≡ take n (steps failed text) }
-{
-}
+{}
 
 /// A line of more than 200 bytes is not plain, so a text that breaks off in one has the steps of each text that it begins.
 pub fn long_lines_are_not_plain()
     ensures { (text more : List ℕ) → most_line_bytes < length (unended text) →
         steps false (text ++ more) ≡ steps false text }
-{
-}
+{}

@@ -1,0 +1,166 @@
+-- Digits read one after another.
+use Rattle.std.proofs.Common.{◌≡◌, ℕ, suc, zero, ◌+◌, ◌*◌, ◌^◌, ◌-◌, ◌<◌, ◌≤◌, Bool, true, false, cond, leb, ◌&&◌, List, [], ◌∷◌, length, take, drop, get_or, Option, Some, None, option_map, option_and_then, IsSome, is_some, not, IfSome, ◌↔◌, ◌≢◌, refl, sym, ap, ◌∙◌, arith}
+use Rattle.std.proofs.lemmas.Bool.{leb-true, false≢true}
+use Rattle.std.proofs.lemmas.Bool.Decides.{nat_tests}
+use Rattle.std.proofs.lemmas.Int.Digits.{digits_value_more}
+use Rattle.std.proofs.lemmas.List.{length-take-le}
+use Rattle.std.proofs.lemmas.List.Splits.{length-slice_split}
+use Rattle.std.proofs.lemmas.Str.{digit_value_digit}
+use Rattle.std.proofs.lemmas.Str.Parse.{IsNumeralModel, numerals_by_value, tells_all_ascii_digits, digits_value_short}
+use Rattle.std.specs.Char.{is_ascii_digit, digit_value}
+use Rattle.std.specs.List.{slice_split, position}
+use Rattle.scan_types.specs.declared.odds.Odds.{Odds}
+use Rattle.feed_lines.proofs.Splits.{split_found}
+use Rattle.std.specs.Str.{all_ascii_digits}
+use Rattle.std.specs.Str.Parse.{digits_value}
+use Rattle.feed_definitions.specs.Numbers.{number_of, within, limit_of, odds_of, thousandths_of_parts, is_point}
+
+-- a byte that is no digit
+pub not_all_digits : (xs : List ℕ) (i : ℕ) → i < length xs → is_ascii_digit (get_or xs i 0) ≡ false → all_ascii_digits xs ≡ false
+not_all_digits [] i within h = absurd (omega (arith, within))
+not_all_digits (x ∷ xs) zero within h = ap (λ b. b && all_ascii_digits xs) h
+not_all_digits (x ∷ xs) (suc i) within h =
+    elim (is_ascii_digit x) as (λ b. (b && all_ascii_digits xs) ≡ false) [
+      | true ↦ not_all_digits xs i (omega (arith, within)) h
+      | false ↦ refl
+    ]
+
+and_false : (b : Bool) → (b && false) ≡ false
+and_false true = refl
+and_false false = refl
+
+pub number_not_digits : (most : ℕ) (text : List ℕ) → all_ascii_digits text ≡ false → None ≡ number_of most text
+number_not_digits most text h =
+    sym (ap (λ b. cond ((leb 1 (length text) && leb (length text) most) && b) (Some (digits_value 10 text)) None) h
+    ∙ ap (λ b. cond b (Some (digits_value 10 text)) None) (and_false (leb 1 (length text) && leb (length text) most)))
+
+digits_by_value : IsNumeralModel (λ ds. all_ascii_digits ds ≡ true) (digits_value 10)
+digits_by_value = numerals_by_value (λ ds. all_ascii_digits ds ≡ true) tells_all_ascii_digits
+
+-- so many digits write a number below that power of ten
+pub digits_below : (text : List ℕ) (i most : ℕ) → i ≤ most → i ≤ length text → all_ascii_digits (take i text) ≡ true → digits_value 10 (take i text) < 10 ^ most
+digits_below text i most few within all =
+    digits_value_short digits_by_value (take i text) most all (omega (arith, few, length-take-le i text within))
+
+both_parts : (a b : Bool) → (a && b) ≡ true → (a ≡ true) × (b ≡ true)
+both_parts true b h = (refl, h)
+both_parts false b h = absurd (cc)
+
+pub digits_more : (xs : List ℕ) (i : ℕ) → i < length xs → all_ascii_digits (take i xs) ≡ true → is_ascii_digit (get_or xs i 0) ≡ true → all_ascii_digits (take (suc i) xs) ≡ true
+digits_more [] i within all digit = absurd (omega (arith, within))
+digits_more (x ∷ xs) zero within all digit = ap (λ b. b && true) digit
+digits_more (x ∷ xs) (suc i) within all digit =
+    let parts = both_parts (is_ascii_digit x) (all_ascii_digits (take i xs)) all in
+    ap (λ b. b && all_ascii_digits (take (suc i) xs)) parts.0 ∙ digits_more xs i (omega (arith, within)) parts.1 digit
+
+is_digit_value : (c : ℕ) → is_ascii_digit c ≡ true → digit_value c ≡ c - 48
+is_digit_value c h =
+    let parts = both_parts (leb 48 c) (leb c 57) h in
+    let low : 48 ≤ c = leb-true 48 c parts.0 in
+    let high : c ≤ 57 = leb-true c 57 parts.1 in
+    omega (arith, digit_value_digit c (low, high))
+
+pub digit_after : (text : List ℕ) (i number digit : ℕ) → i < length text → number ≡ digits_value 10 (take i text) →
+    digit ≡ get_or text i 0 - 48 → is_ascii_digit (get_or text i 0) ≡ true → number * 10 + digit ≡ digits_value 10 (take (i + 1) text)
+digit_after text i number digit within is digit_is ascii =
+    ap (λ n. n * 10 + digit) is
+    ∙ ap (λ d. digits_value 10 (take i text) * 10 + d) (digit_is ∙ sym (is_digit_value (get_or text i 0) ascii))
+    ∙ sym (digits_value_more 10 text i within)
+
+-- limits and odds
+pub limit_none : (text : List ℕ) → None ≡ number_of 9 text → None ≡ limit_of text
+unfolding limit_of
+limit_none text h = ap (option_and_then (within 1 100000000)) h
+
+within_low : (least most n : ℕ) → n < least → within least most n ≡ None
+within_low least most n h = grind (arith, nat_tests)
+
+within_high : (least most n : ℕ) → most < n → within least most n ≡ None
+within_high least most n h = grind (arith, nat_tests)
+
+within_both : (least most n : ℕ) → least ≤ n → n ≤ most → within least most n ≡ Some n
+within_both least most n h k = grind (arith, nat_tests)
+
+pub limit_some : (text : List ℕ) (n : ℕ) → Some n ≡ number_of 9 text → 1 ≤ n → n ≤ 100000000 → Some n ≡ limit_of text
+unfolding limit_of
+limit_some text n h least most = sym (within_both 1 100000000 n least most) ∙ ap (option_and_then (within 1 100000000)) h
+
+pub limit_low : (text : List ℕ) (n : ℕ) → Some n ≡ number_of 9 text → n < 1 → None ≡ limit_of text
+unfolding limit_of
+limit_low text n h low = sym (within_low 1 100000000 n low) ∙ ap (option_and_then (within 1 100000000)) h
+
+pub limit_high : (text : List ℕ) (n : ℕ) → Some n ≡ number_of 9 text → 100000000 < n → None ≡ limit_of text
+unfolding limit_of
+limit_high text n h high = sym (within_high 1 100000000 n high) ∙ ap (option_and_then (within 1 100000000)) h
+
+-- the thousandths of odds without a point
+pub whole_none : (text : List ℕ) → slice_split is_point text ≡ text ∷ [] → None ≡ number_of 4 text → None ≡ thousandths_of_parts (slice_split is_point text)
+unfolding thousandths_of_parts
+whole_none text one h = ap (option_and_then (λ units. Some (1000 * units))) h ∙ sym (ap thousandths_of_parts one)
+
+pub whole_some : (text : List ℕ) (n : ℕ) → slice_split is_point text ≡ text ∷ [] → Some n ≡ number_of 4 text → Some (1000 * n) ≡ thousandths_of_parts (slice_split is_point text)
+unfolding thousandths_of_parts
+whole_some text n one h = ap (option_and_then (λ units. Some (1000 * units))) h ∙ sym (ap thousandths_of_parts one)
+
+thousandths_of_many : (parts : List (List ℕ)) → length parts ≢ 1 → length parts ≢ 2 → None ≡ thousandths_of_parts parts
+unfolding thousandths_of_parts
+thousandths_of_many [] h k = refl
+thousandths_of_many (a ∷ []) h k = absurd (h refl)
+thousandths_of_many (a ∷ b ∷ []) h k = absurd (k refl)
+thousandths_of_many (a ∷ b ∷ c ∷ parts) h k = refl
+
+pub many_points : (text : List ℕ) (at : ℕ) → position is_point text ≡ Some at → length (slice_split is_point text) ≢ 2 → None ≡ thousandths_of_parts (slice_split is_point text)
+many_points text at found h = thousandths_of_many (slice_split is_point text)
+    (λ one. omega (arith, one, ap length (split_found is_point text at found), length-slice_split is_point (drop (at + 1) text))) h
+
+-- and of odds with one point
+regroup : (units : ℕ) (g : ℕ → ℕ) (o : Option ℕ) → option_map (λ q. 1000 * units + q) (option_map g o) ≡ option_and_then (λ p. Some (1000 * units + g p)) o
+regroup units g None = refl
+regroup units g (Some p) = refl
+
+module _ (text whole fraction : List ℕ) (two : slice_split is_point text ≡ whole ∷ fraction ∷ []) where
+  pub units_none : None ≡ number_of 4 whole → None ≡ thousandths_of_parts (slice_split is_point text)
+  unfolding thousandths_of_parts
+  units_none h =
+      ap (option_and_then (λ units. option_and_then (λ parts. Some (1000 * units + parts * 10 ^ (3 - length fraction))) (number_of 3 fraction))) h
+      ∙ sym (ap thousandths_of_parts two)
+
+  pub with_fraction : (units : ℕ) (read : Option ℕ) → Some units ≡ number_of 4 whole →
+      read ≡ option_map (λ parts. parts * 10 ^ (3 - length fraction)) (number_of 3 fraction) →
+      option_map (λ q. 1000 * units + q) read ≡ thousandths_of_parts (slice_split is_point text)
+  unfolding thousandths_of_parts
+  with_fraction units read h is =
+      ap (option_map (λ q. 1000 * units + q)) is
+      ∙ regroup units (λ parts. parts * 10 ^ (3 - length fraction)) (number_of 3 fraction)
+      ∙ ap (option_and_then (λ units. option_and_then (λ parts. Some (1000 * units + parts * 10 ^ (3 - length fraction))) (number_of 3 fraction))) h
+      ∙ sym (ap thousandths_of_parts two)
+
+-- odds in their range
+pub odds_none : (text : List ℕ) → None ≡ thousandths_of_parts (slice_split is_point text) → None ≡ odds_of text
+unfolding odds_of
+odds_none text h = ap (option_and_then (within 1001 1000000)) h
+
+in_range : (odds : Option Odds) (n : ℕ) → IfSome odds (λ o. o.thousandths ≡ n) → (IsSome odds ↔ ((1001 ≤ n) × (n ≤ 1000000))) →
+    option_map (λ o. o.thousandths) odds ≡ within 1001 1000000 n
+in_range None n is iff = out_of_range (leb 1001 n) (leb n 1000000) (leb-true 1001 n) (leb-true n 1000000) (λ h. absurd (false≢true (iff.1 h)))
+  where
+    out_of_range : (a b : Bool) → (a ≡ true → 1001 ≤ n) → (b ≡ true → n ≤ 1000000) → ((1001 ≤ n) × (n ≤ 1000000) → ⊥) → None ≡ cond (a && b) (Some n) None
+    out_of_range true true h k out = absurd (out (h refl, k refl))
+    out_of_range true false h k out = refl
+    out_of_range false b h k out = refl
+in_range (Some o) n is iff = let r = iff.0 refl in ap Some is ∙ sym (within_both 1001 1000000 n r.0 r.1)
+
+pub odds_some : (text : List ℕ) (odds : Option Odds) (n : ℕ) → Some n ≡ thousandths_of_parts (slice_split is_point text) →
+    IfSome odds (λ o. o.thousandths ≡ n) → (IsSome odds ↔ ((1001 ≤ n) × (n ≤ 1000000))) → option_map (λ o. o.thousandths) odds ≡ odds_of text
+unfolding odds_of
+odds_some text odds n h is iff = in_range odds n is iff ∙ ap (option_and_then (within 1001 1000000)) h
+
+-- whether a point was found
+pub no_point : (text : List ℕ) (found : Option ℕ) (none : Bool) → found ≡ position is_point text → is_some found ≡ not none → none ≡ true → position is_point text ≡ None
+no_point text None none is test h = sym is
+no_point text (Some at) none is test h = absurd (false≢true (sym (test ∙ ap not h)))
+
+pub some_point : (text : List ℕ) (found : Option ℕ) (none : Bool) → found ≡ position is_point text → is_some found ≡ not none → none ≡ false →
+    length (slice_split is_point text) ≢ 2 → None ≡ thousandths_of_parts (slice_split is_point text)
+some_point text None none is test h many = absurd (false≢true (test ∙ ap not h))
+some_point text (Some at) none is test h many = many_points text at (sym is) many
