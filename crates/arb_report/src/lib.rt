@@ -16,3 +16,6 @@ mod report;
 mod words;
 
 pub use report::report_text;
+
+#[cfg(test)]
+mod tests;
