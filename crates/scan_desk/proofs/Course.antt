@@ -1,8 +1,7 @@
 -- The course of a run, from what was read and what was written.
-use Rattle.std.proofs.Common.{◌≡◌, ℕ, ◌<◌, ◌≤◌, Bool, true, false, cond, ◌&&◌, List, Vec, Global, [], ◌∷◌, length, map, Option, Some, None, Result, Ok, Err, refl, sym, ap, ◌∙◌, subst, arith, inl, inr, option_map, MatchResult, IfOk}
-use Rattle.std.specs.Io.KnownBytes.{Keeps, Appends}
+use Rattle.std.proofs.Common.{◌≡◌, ℕ, ◌<◌, ◌≤◌, Bool, true, false, cond, ◌&&◌, List, Vec, Global, [], ◌∷◌, length, map, Option, Some, None, Result, Ok, Err, refl, sym, ap, subst, arith, inl, inr, MatchResult, IfOk}
+use Rattle.std.specs.Io.KnownBytes.{Keeps}
 use Rattle.std.proofs.KnownBytes.{Keeps-refl}
-use Rattle.std.specs.Bool.{⊤}
 use Rattle.scan_types.specs.declared.memory.WantOfMemory.{WantOfMemory}
 use Rattle.report_definitions.specs.declared.read_feed.ReadFeed.{ReadFeed}
 use Rattle.report_definitions.specs.Standing.{feed_part}
@@ -16,7 +15,7 @@ use Rattle.std.specs.Str.{bytes_eq}
 use Rattle.std.proofs.lemmas.Bool.Decides.{nat_tests}
 use Rattle.scan_desk.specs.Words.{named_feeds, is_feed_name}
 use Rattle.scan_desk.specs.Readings.{AreRead}
-use Rattle.scan_desk.specs.Desk.{Due, IsDueAfter, IsRun, IsWritten, IsCourse, IsCourseOfRun}
+use Rattle.scan_desk.specs.Desk.{Due, IsDueAfter, IsWritten, IsCourse, IsCourseOfRun}
 use Rattle.scan_desk.specs.Told.{told_bytes}
 use Rattle.scan_desk.specs.Texts.{cannot_be_opened}
 use Rattle.desk_io.specs.Faults.{Rose}

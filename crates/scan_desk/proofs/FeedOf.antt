@@ -1,27 +1,23 @@
 -- What the reading of one feed gives, from what its reader answered.
-use Rattle.std.proofs.Common.{◌≡◌, ◌≢◌, ℕ, suc, zero, ◌+◌, ◌<◌, ◌≤◌, Bool, true, false, List, [], ◌∷◌, ◌++◌, length, take, map, Option, Some, None, refl, sym, ap, ◌∙◌, subst, arith, MatchOption, if◌then◌else◌, inl, inr, All, Global, Vec, append_assoc}
-use Rattle.std.specs.Bool.{⊤}
-use Rattle.std.specs.List.{filter_map}
+use Rattle.std.proofs.Common.{◌≡◌, ◌≢◌, ℕ, suc, zero, ◌+◌, ◌<◌, Bool, true, false, List, [], ◌∷◌, ◌++◌, length, take, map, Option, Some, None, refl, sym, ap, ◌∙◌, subst, arith, MatchOption, if◌then◌else◌, inl, All}
 use Rattle.std.specs.Io.KnownBytes.{Consumes}
 use Rattle.std.proofs.KnownBytes.{Consumes-trans}
 use Rattle.desk_io.specs.Faults.{Rose}
 use Rattle.scan_types.specs.declared.rule.VoidRule.TheVariants.{Void}
 use Rattle.feed_definitions.specs.declared.header.Header.{Header}
 use Rattle.feed_definitions.specs.declared.accepted.Accepted.{Accepted}
-use Rattle.feed_definitions.specs.Plain.{LineText, FeedStep, Book, Accepts, NotPlain, Ended, Failed, steps}
+use Rattle.feed_definitions.specs.Plain.{FeedStep, Book, Accepts, NotPlain, Ended, steps}
 use Rattle.feed_definitions.specs.Answered.{book_in, book_of_step, accepted_in, line_of_step, book_named}
 use Rattle.feed_definitions.specs.Views.{line_text, IsResultQuote}
 use Rattle.feed_lines.specs.Reader.{ReaderView}
-use Rattle.report_definitions.specs.Standing.{FeedPart}
-use Rattle.scan_desk.specs.declared.feed_end.FeedEnd.{FeedEnd}
 use Rattle.scan_desk.specs.declared.feed_end.FeedStop.{FeedStop}
 use Rattle.scan_desk.specs.declared.feed_end.FeedStop.TheVariants as stops
 use Rattle.scan_desk.specs.Opening.{IsOpened}
-use Rattle.scan_desk.specs.Feeds.{is_among, Answers, IsWhole, IsBroken, IsNotPlain, IsSecondOfBook, StopsSo, IsReadSo, part_of}
+use Rattle.scan_desk.specs.Feeds.{is_among, StopsSo, part_of}
 use Rattle.std.proofs.lemmas.List.{length-map}
 use Rattle.report_definitions.specs.declared.read_feed.ReadFeed.{ReadFeed}
 use Rattle.report_definitions.specs.Standing.{feed_part}
-use Rattle.scan_desk.specs.Reading.{IsWholeFeed, IsFeedOf, answered, HasAnswered, GoesOn, StopsAfter, IsHeaderOf}
+use Rattle.scan_desk.specs.Reading.{IsWholeFeed, IsFeedOf, answered, GoesOn, StopsAfter, IsHeaderOf}
 
 -- the first item shows in any front that is not empty
 book_in_front : (n : ℕ) (given : List FeedStep) (first : FeedStep) → take n given ≡ first ∷ [] → book_in given ≡ book_of_step first

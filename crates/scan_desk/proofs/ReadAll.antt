@@ -1,5 +1,5 @@
 -- The feeds that were read, one after another.
-use Rattle.std.proofs.Common.{◌≡◌, ◌≢◌, ℕ, suc, zero, ◌+◌, ◌<◌, ◌≤◌, List, [], ◌∷◌, ◌++◌, length, map, Option, Some, None, refl, sym, ap, ◌∙◌, subst, arith, append_assoc, append-nil}
+use Rattle.std.proofs.Common.{◌≡◌, ℕ, suc, ◌+◌, ◌<◌, ◌≤◌, List, [], ◌∷◌, ◌++◌, length, map, Option, Some, None, refl, sym, ap, subst, arith, append_assoc, append-nil}
 use Rattle.std.proofs.lemmas.List.{length_push}
 use Rattle.std.specs.List.{AllZip, AllByRecursion}
 use Rattle.std.proofs.lemmas.List.Elements.{All-from_recursion}
@@ -10,7 +10,7 @@ use Rattle.report_definitions.specs.declared.read_feed.ReadFeed.{ReadFeed}
 use Rattle.scan_desk.specs.declared.feed_end.FeedEnd.{FeedEnd}
 use Rattle.scan_desk.specs.declared.feed_end.FeedStop.{FeedStop}
 use Rattle.scan_desk.specs.declared.feed_end.FeedStop.TheVariants as stops
-use Rattle.scan_desk.specs.Opening.{IsOpened, AreOpened}
+use Rattle.scan_desk.specs.Opening.{AreOpened}
 use Rattle.scan_desk.specs.Feeds.{IsReadSo, part_of}
 use Rattle.scan_desk.specs.Reading.{books_of, IsWholeFeed, IsFeedOf}
 use Rattle.scan_desk.specs.Readings.{AreReadSo, AllEnded, StopsAtLast, HasRead, AreRead}

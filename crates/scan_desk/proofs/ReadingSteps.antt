@@ -1,9 +1,8 @@
 -- The steps of one feed, as they are answered one after another.
-use Rattle.std.proofs.Common.{◌≡◌, ◌≢◌, ℕ, suc, zero, ◌+◌, ◌<◌, ◌≤◌, Bool, true, false, List, [], ◌∷◌, ◌++◌, length, get_or, take, map, Option, Some, None, refl, sym, ap, ◌∙◌, subst, arith, slice_get, ◌&&◌, append_assoc, append-nil, cond, ltb, eqb, if◌then◌else◌}
+use Rattle.std.proofs.Common.{◌≡◌, ◌≢◌, ℕ, suc, zero, ◌+◌, ◌≤◌, Bool, true, false, List, [], ◌∷◌, ◌++◌, length, take, Option, Some, None, refl, sym, ap, ◌∙◌, subst, arith, slice_get, ◌&&◌, append_assoc, append-nil, cond, eqb}
 use Rattle.std.proofs.lemmas.List.{take_more, map_push, length_push}
 use Rattle.std.proofs.lemmas.Option.{slice_get_within, get_or_from_slice_get}
 use Rattle.std.proofs.KnownBytes.{Consumes-nil, Consumes-trans}
-use Rattle.std.specs.Io.KnownBytes.{Consumes}
 use Rattle.feed_definitions.specs.declared.accepted.Accepted.{Accepted}
 use Rattle.feed_definitions.specs.Lines.{ended_lines, unended}
 use Rattle.feed_definitions.specs.Plain.{LineText, FeedStep, Book, Accepts, NotPlain, Ended, Failed, steps, line_steps, quote_steps, ending, plain_quote, book_of}

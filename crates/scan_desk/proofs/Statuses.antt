@@ -1,17 +1,15 @@
 -- What each status of a run says.
-use Rattle.std.proofs.Common.{◌≡◌, ◌≢◌, ℕ, ◌+◌, ◌-◌, ◌<◌, ◌≤◌, List, [], ◌∷◌, length, map, Option, Some, None, refl, sym, ap, ◌∙◌, subst, arith, inl, inr, ◌⊎◌, slice_get, IsSomeAnd, IsSome}
+use Rattle.std.proofs.Common.{◌≡◌, ◌≢◌, ℕ, ◌+◌, ◌-◌, List, [], ◌∷◌, length, Option, Some, None, refl, sym, ap, ◌∙◌, subst, arith, inl, inr, ◌⊎◌, slice_get, IsSomeAnd, IsSome}
 use Rattle.std.proofs.lemmas.Bool.{false≢true}
-use Rattle.std.specs.Io.KnownBytes.{Keeps, Appends}
+use Rattle.std.specs.Io.KnownBytes.{Keeps}
 use Rattle.desk_io.specs.Faults.{Rose}
 use Rattle.scan_desk.specs.declared.feed_end.FeedEnd.{FeedEnd}
 use Rattle.scan_desk.specs.declared.feed_end.FeedStop.{FeedStop}
 use Rattle.scan_desk.specs.declared.feed_end.FeedStop.TheVariants as stops
 use Rattle.scan_desk.specs.Words.{named_feeds}
-use Rattle.scan_desk.specs.Told.{told_bytes}
 use Rattle.scan_desk.specs.Texts.{is_not_built}
-use Rattle.scan_desk.specs.Feeds.{part_of}
 use Rattle.scan_desk.specs.Readings.{StopsAtLast}
-use Rattle.scan_desk.specs.Desk.{Due, IsNoCommand, IsNotOpened, IsDueAfter, IsRun, IsDue, IsWritten, IsCourse, IsReported, IsOrYields}
+use Rattle.scan_desk.specs.Desk.{Due, IsDueAfter, IsDue, IsCourse, IsReported, IsOrYields}
 
 -- the status of the first that is not built
 built_status : {S : Type 0} (found : Option (FeedEnd S)) (text : FeedEnd S → List ℕ) (due : Due) → IsSomeAnd found (λ end. due ≡ record { status = 11; text = text end }) → due.status ≡ 11

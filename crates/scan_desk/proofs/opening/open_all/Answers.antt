@@ -1,8 +1,7 @@
-use Rattle.std.proofs.Common.{◌≡◌, ◌++◌, ◌∷◌, refl, true, is_ok, MatchOption, Some, ◌≤◌, ◌<◌, ◌+◌, map, length, vec_len, string_bytes, arith, get_or, [], Global, sym, ◌∙◌, ap, subst, ℕ, List}
+use Rattle.std.proofs.Common.{◌≡◌, ◌++◌, ◌∷◌, refl, true, is_ok, MatchOption, Some, ◌<◌, ◌+◌, map, length, string_bytes, arith, get_or, [], Global, sym, ◌∙◌, ap, subst, ℕ}
 use Rattle.std.proofs.lemmas.List.{get_or-map, length-map}
 use Rattle.std.specs.Bool.{⊤}
 use Rattle.scan_desk.specs.Told.{told_bytes}
-use Rattle.scan_desk.specs.Opening.{AreOpened}
 use Rattle.desk_io.proofs.Openings.{opened_under_none}
 use Rattle.scan_desk.proofs.Opened.{opened_more, tells, AreOpened_push}
 use Rattle.scan_desk.proofs.opening.open_all.Goals as goal

@@ -1,5 +1,5 @@
-use Rattle.std.proofs.Common.{ℕ, List, Option, Result, ◌≡◌, ◌≤◌, ◌<◌, ◌+◌, length, refl, sym, ap, ◌∙◌, subst, arith, vec_len, None, [], deque_len, map, IfOk}
-use Rattle.scan_desk.proofs.ReadAll.{stops_some, parts_are, are_plain, as_many, as_many_read}
+use Rattle.std.proofs.Common.{ℕ, List, ◌≡◌, subst, arith, None, [], deque_len, map, IfOk}
+use Rattle.scan_desk.proofs.ReadAll.{stops_some, are_plain, as_many, as_many_read}
 use Rattle.report_definitions.specs.declared.read_feed.ReadFeed.{ReadFeed}
 use Rattle.report_definitions.specs.Standing.{feed_part}
 use Rattle.scan_desk.specs.declared.feed_end.FeedEnd.{FeedEnd}

@@ -1,4 +1,4 @@
-use Rattle.std.proofs.Common.{ℕ, List, Option, Result, ◌≡◌, ◌≤◌, ◌<◌, ◌+◌, length, map, refl, sym, ap, ◌∙◌, subst, arith, Some, None, deque_len, string_bytes, Global, inl, inr}
+use Rattle.std.proofs.Common.{ℕ, ◌≡◌, length, map, sym, subst, arith, deque_len, string_bytes, Global}
 use Rattle.std.proofs.lemmas.List.{length-map}
 use Rattle.scan_desk.specs.Told.{told_bytes}
 use Rattle.scan_desk.specs.Desk.{IsCourseOfRun}

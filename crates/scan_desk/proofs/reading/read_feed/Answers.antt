@@ -1,4 +1,4 @@
-use Rattle.std.proofs.Common.{◌≡◌, refl, [], sym, ap, subst, rules}
+use Rattle.std.proofs.Common.{ap}
 use Rattle.scan_desk.specs.Reading.{books_of}
 use Rattle.scan_desk.proofs.FeedOf.{feed_of}
 use Rattle.scan_desk.proofs.reading.read_feed.Goals as goal

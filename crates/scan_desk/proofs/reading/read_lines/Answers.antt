@@ -1,10 +1,10 @@
 use Rattle.std.proofs.lemmas.List.Elements.{All-push}
 use Rattle.feed_definitions.specs.declared.accepted.Accepted.{Accepted}
-use Rattle.std.proofs.Common.{ℕ, map, slice_get, Some, ◌≡◌, ◌+◌, ◌++◌, ◌∷◌, [], true, false, length, is_ok, sym, ap, ◌∙◌, subst, arith, suc, List}
+use Rattle.std.proofs.Common.{ℕ, map, slice_get, Some, ◌≡◌, ◌++◌, ◌∷◌, [], true, false, length, is_ok, subst}
 use Rattle.feed_definitions.specs.Answered.{book_named}
-use Rattle.feed_definitions.specs.Plain.{FeedStep, Book, Accepts, steps}
+use Rattle.feed_definitions.specs.Plain.{Book, Accepts, steps}
 use Rattle.feed_definitions.specs.Views.{line_text, IsResultQuote}
-use Rattle.scan_desk.specs.Reading.{answered, HasAnswered}
+use Rattle.scan_desk.specs.Reading.{answered}
 use Rattle.scan_desk.proofs.ReadingSteps.{GoesOn_more, HasAnswered_more, answered_push, one_book}
 use Rattle.scan_desk.proofs.reading.read_lines.Goals as goal
 

@@ -1,10 +1,8 @@
-use Rattle.std.proofs.Common.{ℕ, List, Option, ◌≡◌, ◌≤◌, ◌<◌, ◌+◌, ◌++◌, ◌∷◌, [], true, length, is_ok, refl, sym, ap, ◌∙◌, subst, arith, vec_len, vec_capacity}
+use Rattle.std.proofs.Common.{ℕ, List, Option, ◌≡◌, ◌++◌, ◌∷◌, [], true, length, is_ok, sym, subst, arith}
 use Rattle.std.specs.VecDeque.{deque_len}
 use Rattle.report_definitions.specs.declared.read_feed.ReadFeed.{ReadFeed}
 use Rattle.scan_desk.specs.Reading.{books_of, IsFeedOf}
-use Rattle.scan_desk.specs.Opening.{IsOpened}
-use Rattle.scan_desk.specs.Readings.{HasRead, AreRead}
-use Rattle.scan_desk.proofs.ReadAll.{HasRead_none, HasRead_more, AreRead_stopped, AreRead_all}
+use Rattle.scan_desk.proofs.ReadAll.{HasRead_more, AreRead_stopped, AreRead_all}
 use Rattle.scan_desk.proofs.readings.read_all.Goals as goal
 
 pub returns-in_default-whole : goal.returns-in_default-whole
