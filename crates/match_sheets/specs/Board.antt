@@ -61,11 +61,20 @@ abbrev pub IsEntry : (ℕ → List LineText) → List ℕ → Option Slots → T
 IsEntry lines match_name None = ¬ (IsNamed lines match_name)
 IsEntry lines match_name (Some slots) = IsNamed lines match_name × AreSlots lines match_name slots.offers
 
+-- what a board has of a match
+abbrev pub on_board : BTreeMap (List ℕ) Slots → List ℕ → Option Slots
+on_board board match_name = get (slice_cmp nat_cmp) board match_name
+
 -- the board has the slots of each match that one of the lines quotes
 abbrev pub IsBoard : (ℕ → List LineText) → BTreeMap (List ℕ) Slots → Type 0
-IsBoard lines board = (match_name : List ℕ) → IsEntry lines match_name (get (slice_cmp nat_cmp) board match_name)
+IsBoard lines board = (match_name : List ℕ) → IsEntry lines match_name (on_board board match_name)
 
 -- the slots, or new ones, with one more offer
 abbrev pub with_offer : Option Slots → Offer → Slots
 with_offer slots offer =
     record { offers = slice_set (option_map_or (λ s. s.offers) slots (replicate 24 None)) (slot_of offer) (Some offer) }
+
+-- the offer stands on the match, in its slot, and all else is as before
+abbrev pub PutsOffer : List ℕ → Offer → BTreeMap (List ℕ) Slots → BTreeMap (List ℕ) Slots → Type 0
+PutsOffer match_name offer old new =
+    (q : List ℕ) → on_board new q ≡ (if bytes_eq match_name q then Some (with_offer (on_board old match_name) offer) else on_board old q)

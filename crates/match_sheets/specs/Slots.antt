@@ -1,11 +1,13 @@
 -- The slots of a match: three for each feed, of its home win, its draw and its away win.
 use Rattle.std.specs.Prelude.{ℕ, ◌≡◌, ◌+◌, ◌*◌, ◌<◌, List, All, Option, Some, None, IfSome, Contains, slice_index_or}
+use Rattle.std.specs.List.{AllZip}
 use Rattle.scan_types.specs.declared.offer.Offer.{Offer}
 use Rattle.scan_types.specs.declared.rule.VoidRule.TheVariants.{Void}
 use Rattle.scan_types.specs.Selections.{selection_number}
 use Rattle.scan_types.specs.Sheets.{IsSheet}
 use Rattle.result_verdict.specs.Findings.{IsFirstFinding, IsRightFirst}
 use Rattle.report_definitions.specs.declared.match_part.MatchPart.{MatchPart}
+use Rattle.match_sheets.specs.declared.slots.Slots.{Slots}
 
 -- the slot of an offer on a result
 abbrev pub slot_of : Offer → ℕ
@@ -33,3 +35,7 @@ pub record IsPartOf (match_name : List ℕ) (slots : List (Option Offer)) (part 
   pub offers : AreOffersOf slots part.sheet
   pub first : IsFirstFinding part.sheet part.finding
   pub right : IsRightFirst part.sheet part.finding
+
+-- each match has the name and the offers of its entry, in the entries' order, and their finding
+abbrev pub ArePartsOf : List (List ℕ × Slots) → List MatchPart → Type 0
+ArePartsOf entries parts = AllZip (λ entry part. IsPartOf entry.0 entry.1.offers part) entries parts

@@ -1,12 +1,8 @@
-ghost use Rattle.std.specs.Prelude.{◌≡◌, ◌+◌, ◌<◌, ◌≤◌, ℕ, List, length, map, IfOk, OnOk, Some, if◌then◌else◌};
-ghost use Rattle.std.specs.BTreeMap.{get};
-ghost use Rattle.std.specs.Cmp.Lexicographic.{slice_cmp};
-ghost use Rattle.std.specs.Ordering.{nat_cmp};
-ghost use Rattle.std.specs.Str.{bytes_eq};
+ghost use Rattle.std.specs.Prelude.{◌+◌, ◌<◌, ◌≤◌, length, map, IfOk, OnOk};
 ghost use Rattle.scan_types.specs.Selections.{selection_number};
 ghost use Rattle.report_definitions.specs.Standing.{feed_part};
 ghost use Rattle.match_sheets.specs.Plain.{ArePlain};
-ghost use Rattle.match_sheets.specs.Board.{IsBoard, lines_before, with_offer};
+ghost use Rattle.match_sheets.specs.Board.{IsBoard, PutsOffer, lines_before};
 
 use crate::slots::Slots;
 use feed_definitions::Change;
@@ -22,7 +18,7 @@ fn put_offer(
     offer: Offer,
 ) -> Result<(), WantOfMemory>
     requires { selection_number offer.selection < 3 }
-    ensures { OnOk result ((q : List ℕ) → get (slice_cmp nat_cmp) board.new q ≡ (if bytes_eq match_name q then Some (with_offer (get (slice_cmp nat_cmp) board.old match_name) offer) else get (slice_cmp nat_cmp) board.old q)) }
+    ensures { OnOk result (PutsOffer match_name offer board.old board.new) }
 {
     if let Some(slots) = board.get_mut(&match_name) {
         slots.put(offer);

@@ -1,13 +1,13 @@
 ghost use Rattle.std.specs.Prelude.{◌≤◌, ℕ, List, length, map, All, IfOk, IfSome};
-ghost use Rattle.std.specs.List.{AllZip};
-ghost use Rattle.std.specs.BTreeMap.{get, IsOrdered};
+ghost use Rattle.std.specs.BTreeMap.{IsOrdered};
 ghost use Rattle.std.specs.Cmp.Lexicographic.{slice_cmp};
 ghost use Rattle.std.specs.Ordering.{nat_cmp};
 ghost use Rattle.report_definitions.specs.Report.{AreMatchesOf};
 ghost use Rattle.report_definitions.specs.Standing.{feed_part};
 ghost use Rattle.result_verdict.specs.Findings.{IsFirstFinding, IsRightFirst};
+ghost use Rattle.match_sheets.specs.Board.{on_board};
 ghost use Rattle.match_sheets.specs.Plain.{ArePlain};
-ghost use Rattle.match_sheets.specs.Slots.{IsPartOf, ArePlaced};
+ghost use Rattle.match_sheets.specs.Slots.{IsPartOf, ArePartsOf, ArePlaced};
 
 use crate::board::board_of;
 use crate::slots::Slots;
@@ -33,9 +33,9 @@ fn part_of(alloc: Global, match_name: Name, slots: &Slots) -> Result<MatchPart, 
 
 /// The matches on the board in its order, each with its finding.
 fn parts_of(alloc: Global, board: &BTreeMap<Name, Slots>) -> Result<Vec<MatchPart>, WantOfMemory>
-    requires { (q : List ℕ) → IfSome (get (slice_cmp nat_cmp) board.now q) (λ slots. ArePlaced slots.offers) }
+    requires { (q : List ℕ) → IfSome (on_board board.now q) (λ slots. ArePlaced slots.offers) }
     ensures rising { IsOrdered (slice_cmp nat_cmp) board.now }
-    ensures parts { IfOk result (λ parts. AllZip (λ entry part. IsPartOf entry.0 entry.1.offers part) board.now.entries parts.items) }
+    ensures parts { IfOk result (λ parts. ArePartsOf board.now.entries parts.items) }
 {
     let mut parts = Vec::with_capacity(alloc, board.len())?;
     for (match_name, slots) in board {
@@ -44,10 +44,11 @@ fn parts_of(alloc: Global, board: &BTreeMap<Name, Slots>) -> Result<Vec<MatchPar
     Ok(parts)
 }
 
-/// The matches that the feeds quoted, rising by the bytes of their names, each with the offers that stand on it and its finding.
+/// The matches that the feeds quoted, rising by the bytes of their names, each with the offers that
+/// stand on it and its finding. The feeds are numbered from 0, as they stand.
 ///
-/// Takes time for each accepted line that grows with the logarithm of the number of matches, and memory for what it returns and a
-/// board with a slot for each feed, result and match.
+/// Takes time for each accepted line that grows with the logarithm of the number of matches, and memory
+/// for what it returns and for the slots of each match.
 pub fn matches_of(alloc: Global, feeds: &[ReadFeed]) -> Result<Vec<MatchPart>, WantOfMemory>
     requires few { length feeds.now ≤ 8 }
     requires plain { ArePlain feeds.now }

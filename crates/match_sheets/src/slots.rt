@@ -8,8 +8,8 @@ use std::alloc::Global;
 /// The slots of a match: three for each of at most eight feeds.
 pub(crate) const SLOTS: usize = 24;
 
-/// What stands on one match: a slot for each feed and result, feed after feed, and within a feed the home win, the draw and the away
-/// win. So the slots are in the order of a sheet.
+/// What stands on one match: a slot for each feed and result, feed after feed, and within a feed the
+/// home win, the draw and the away win. So the slots are in the order of a sheet.
 #[derive(Drop)]
 pub(crate) struct Slots {
     pub(crate) offers: [Option<Offer>; SLOTS],
@@ -46,7 +46,8 @@ impl Slots {
     pub(crate) fn sheet(&self, alloc: Global) -> Result<Sheet, WantOfMemory>
         requires { ArePlaced self.now.offers }
         ensures only { IfOk result (All (λ offer. slice_index_or self.now.offers (slot_of offer) None ≡ Some offer)) }
-        ensures each { IfOk result (λ sheet. (k : ℕ) → k < 24 → IfSome (slice_index_or self.now.offers k None) (Contains sheet)) }
+        ensures each { IfOk result (λ sheet. (k : ℕ) → k < 24
+            → IfSome (slice_index_or self.now.offers k None) (Contains sheet)) }
     {
         let mut sheet = Sheet::new(alloc);
         for slot in &self.offers {
