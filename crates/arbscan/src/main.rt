@@ -2,7 +2,8 @@
 #![tactic(auto)]
 
 use desk_io::{FileOpener, OutSink};
-use scan_desk::{WANT_OF_MEMORY, desk};
+use scan_desk::desk;
+use scan_desk::status::WANT_OF_MEMORY;
 use std::alloc::AllocError;
 use std::process::ExitCode;
 use std::rt::Env;

@@ -7,8 +7,8 @@ ghost use Rattle.scan_desk.specs.Feeds.{part_of};
 ghost use Rattle.scan_desk.specs.Desk.{IsReport, IsDueAfter};
 
 use crate::feed_end::{FeedEnd, FeedStop};
+use crate::status::{DONE, NOT_BUILT, NOT_READ, WANT_OF_MEMORY};
 use crate::texts::{cannot_be_read, is_not_built};
-use crate::writing::WANT_OF_MEMORY;
 use arb_report::report_text;
 use match_sheets::matches_of;
 use report_definitions::ReadFeed;
@@ -43,11 +43,11 @@ pub(crate) fn due<S: Drop>(
 {
     let last = ends.len() - 1;
     match stop {
-        FeedStop::End => (0, report(alloc, feeds)),
-        FeedStop::ReadFault => (4, cannot_be_read(alloc, last as u8)),
+        FeedStop::End => (DONE, report(alloc, feeds)),
+        FeedStop::ReadFault => (NOT_READ, cannot_be_read(alloc, last as u8)),
         FeedStop::NotBuilt => {
             let line = u64::from(ends[last].lines) + 1;
-            (11, is_not_built(alloc, last as u8, line))
+            (NOT_BUILT, is_not_built(alloc, last as u8, line))
         }
         FeedStop::NoMemory => (WANT_OF_MEMORY, Err(WantOfMemory)),
     }

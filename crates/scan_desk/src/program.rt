@@ -13,9 +13,10 @@ use crate::ending::due;
 use crate::feed_end::{FeedEnd, FeedStop};
 use crate::opening::{NotOpened, open_all};
 use crate::readings::{Readings, read_all};
+use crate::status::{NO_COMMAND, NOT_OPENED, WANT_OF_MEMORY};
 use crate::texts::cannot_be_opened;
 use crate::words::named_feeds;
-use crate::writing::{WANT_OF_MEMORY, write_due, write_text};
+use crate::writing::{write_due, write_text};
 use desk_io::{Opener, Sink, Source};
 use std::alloc::Global;
 use std::collections::VecDeque;
@@ -23,7 +24,7 @@ use std::collections::VecDeque;
 /// How a run ended.
 #[derive(Drop)]
 pub struct DeskEnd<S: Drop> {
-    /// The exit status: 0 done, 2 no command, 3 not opened, 4 not read, 5 not written, 7 want of memory, 11 not built.
+    /// The exit status, one of those in `status`.
     pub status: u8,
     /// The ends of the feeds that were begun, in order.
     pub feeds: Vec<FeedEnd<S>>,
@@ -70,13 +71,13 @@ fn run<O: Opener, K: Sink>(
 {
     let Some(names) = named_feeds(words) else {
         return DeskEnd {
-            status: write_text(sink, 2, b"error: the words are no command\n"),
+            status: write_text(sink, NO_COMMAND, b"error: the words are no command\n"),
             feeds: Vec::new(alloc),
         };
     };
     match open_all(alloc, names, opener) {
         Err(NotOpened::Feed(feed)) => DeskEnd {
-            status: write_due(sink, 3, &cannot_be_opened(alloc, feed)),
+            status: write_due(sink, NOT_OPENED, &cannot_be_opened(alloc, feed)),
             feeds: Vec::new(alloc),
         },
         Err(NotOpened::WantOfMemory) => DeskEnd {
@@ -87,7 +88,11 @@ fn run<O: Opener, K: Sink>(
     }
 }
 
-/// Runs the command that the words name: `once FEED` or `once FEED FEED` reads the feeds in order and writes their report.
+/// Runs the command that the words name. `once FEED` or `once FEED FEED` opens the feeds in order, reads them one after another, each to
+/// its end or to the first step that stops it before, and writes their report; or one error line, with the status of its cause.
+///
+/// Takes time in the bytes of the feeds and, for each accepted line, in the logarithm of the number of matches; and memory for the bytes
+/// that are read, the accepted lines and the report.
 pub fn desk<O: Opener, K: Sink>(
     alloc: Global,
     words: &[String],

@@ -3,14 +3,9 @@
 ghost use Rattle.std.specs.Prelude.{◌≡◌, MatchResult};
 ghost use Rattle.scan_desk.specs.Desk.{IsWritten};
 
+use crate::status::{NOT_WRITTEN, WANT_OF_MEMORY};
 use desk_io::{Sink, put_all};
 use scan_types::WantOfMemory;
-
-/// The status of a run that memory was wanting for.
-pub const WANT_OF_MEMORY: u8 = 7;
-
-/// The status of a run whose text could not be written.
-pub(crate) const NOT_WRITTEN: u8 = 5;
 
 /// Writes the text of this status, and answers it; or 5 where a write failed.
 pub(crate) fn write_text<K: Sink>(sink: &mut K, status: u8, text: &[u8]) -> u8
