@@ -1,0 +1,4 @@
+mod Orders
+mod Terms
+mod Sheets
+mod Matches
