@@ -11,6 +11,7 @@ use Rattle.result_verdict.proofs.Uniques.{finding_is_one}
 use Rattle.report_definitions.specs.declared.match_part.MatchPart.{MatchPart}
 use Rattle.report_definitions.specs.Standing.{FeedPart, IsQuoted, IsSheetOf}
 use Rattle.report_definitions.specs.Report.{report_text}
+use Rattle.scan_desk.specs.Desk.{default_pivots, IsReport}
 use Rattle.report_laws.specs.Laws.{AreFoundMatches, IsReportText}
 use Rattle.report_laws.proofs.Orders.{IsIn, all_at, any_in, below_of, same_lists}
 use Rattle.report_laws.proofs.Sheets.{one_sheet}
@@ -51,5 +52,11 @@ one_list feeds xs ys p q =
     same_lists NameIsBelow below_not xs ys (below_of NameIsBelow xs p.quoted.rising) (below_of NameIsBelow ys q.quoted.rising)
     (in_other feeds xs ys p q) (in_other feeds ys xs q p)
 
-pub one_report : (pivots : ℕ) (feeds : List FeedPart) (text other : List ℕ) → IsReportText pivots feeds text → IsReportText pivots feeds other → text ≡ other
-one_report pivots feeds text other (xs, p, e) (ys, q, f) = e ∙ (ap (report_text pivots feeds) (one_list feeds xs ys p q) ∙ sym f)
+pub one_text : (pivots : ℕ) (feeds : List FeedPart) (text other : List ℕ) → IsReportText pivots feeds text → IsReportText pivots feeds other → text ≡ other
+one_text pivots feeds text other (xs, p, e) (ys, q, f) = e ∙ (ap (report_text pivots feeds) (one_list feeds xs ys p q) ∙ sym f)
+
+pub one_report : (feeds : List FeedPart) (report other : List ℕ) → IsReport feeds report → IsReport feeds other → report ≡ other
+one_report feeds report other p q =
+    let found : AreFoundMatches feeds p.matches = record { quoted = p.quoted; found = p.found } in
+    let others : AreFoundMatches feeds q.matches = record { quoted = q.quoted; found = q.found } in
+    one_text default_pivots feeds report other (p.matches, found, p.text) (q.matches, others, q.text)

@@ -5,6 +5,7 @@ use Rattle.result_verdict.specs.Findings.{IsFirstFinding}
 use Rattle.report_definitions.specs.declared.match_part.MatchPart.{MatchPart}
 use Rattle.report_definitions.specs.Standing.{FeedPart, Stands, IsSheetOf}
 use Rattle.report_definitions.specs.Report.{report_text, AreMatchesOf}
+use Rattle.scan_desk.specs.Desk.{IsReport}
 
 -- offers that stand on a match are the same where their feeds and their selections' numbers are
 abbrev pub OneOffer : Type 0
@@ -27,11 +28,15 @@ abbrev pub OneListOfMatches : Type 0
 OneListOfMatches =
     (feeds : List FeedPart) (xs ys : List MatchPart) → AreFoundMatches feeds xs → AreFoundMatches feeds ys → xs ≡ ys
 
--- the text is the report of the feeds, where each run of a program has so many pivots
+-- the text is that of the feeds and their matches, where each run of a program has so many pivots
 abbrev pub IsReportText : ℕ → List FeedPart → List ℕ → Type 0
 IsReportText pivots feeds text = (matches : List MatchPart) × AreFoundMatches feeds matches × (text ≡ report_text pivots feeds matches)
 
+-- feeds have at most one such text
+abbrev pub OneText : Type 0
+OneText =
+    (pivots : ℕ) (feeds : List FeedPart) (text other : List ℕ) → IsReportText pivots feeds text → IsReportText pivots feeds other → text ≡ other
+
 -- feeds have at most one report
 abbrev pub OneReport : Type 0
-OneReport =
-    (pivots : ℕ) (feeds : List FeedPart) (text other : List ℕ) → IsReportText pivots feeds text → IsReportText pivots feeds other → text ≡ other
+OneReport = (feeds : List FeedPart) (report other : List ℕ) → IsReport feeds report → IsReport feeds other → report ≡ other

@@ -4,7 +4,7 @@
 //! Each function is empty: its clause is the law.
 #![tactic(auto)]
 
-ghost use Rattle.report_laws.specs.Laws.{OneOffer, OneSheet, OneListOfMatches, OneReport};
+ghost use Rattle.report_laws.specs.Laws.{OneOffer, OneSheet, OneListOfMatches, OneText, OneReport};
 
 /// Of one selection in one feed, at most one offer stands on a match.
 pub fn a_selection_has_one_offer()
@@ -21,7 +21,9 @@ pub fn feeds_have_one_list_of_matches()
     ensures { OneListOfMatches }
 {}
 
-/// Feeds have at most one report, for each count of pivots.
+/// Feeds have at most one report: where a run of the desk is due to write the report of what it read, only one text will do. The
+/// same holds for each count of pivots.
 pub fn feeds_have_one_report()
-    ensures { OneReport }
+    ensures report { OneReport }
+    ensures any_pivots { OneText }
 {}
