@@ -1,11 +1,11 @@
-// The simplex tableau of a linear program in whole numbers, exact within 128 bits: each row is kept divided by the
-// greatest common divisor of its entries, so signs and ratios are those of a tableau in which nothing is divided, and a
-// pivot says where a number would pass 128 bits.
-//
-// - `Program`: coefficients and right sides; the objective is column 0.
-// - `Tableau::build`: the first tableau, the one call that takes memory: a number a place of the tableau.
-// - `Tableau::pivot`: one pivot, in a scan of each row that is not 0 in the column, and a second one that writes it.
-// - `Tableau::basic`, `value`, `multiplier`: what a basic solution and its multipliers are read from.
+//! The simplex tableau of a linear program in whole numbers, exact within 128 bits: each row is kept divided by the
+//! greatest common divisor of its entries, so signs and ratios are those of a tableau in which nothing is divided, and a
+//! pivot says where a number would pass 128 bits.
+//!
+//! - `Program`: coefficients and right sides; the objective is column 0.
+//! - `Tableau::build`: the first tableau, the one call that takes memory: a number a place of the tableau.
+//! - `Tableau::pivot`: one pivot, in a scan of each row that is not 0 in the column, and a second one that writes it.
+//! - `Tableau::basic`, `value`, `multiplier`: what a basic solution and its multipliers are read from.
 #![tactic(auto)]
 
 mod pivot;

@@ -1,11 +1,11 @@
-// Runs of pivots by Bland's rule (R. G. Bland, "New finite pivoting rules for the simplex method", 1977): of the columns
-// with a positive entry in the objective row the lowest enters, and of the rows of least ratio the one leaves whose basic
-// column is the lowest.
-//
-// - `run`: pivots until nothing is left to choose, a number would pass 128 bits, or the budget of pivots is spent. A pivot
-//   costs a scan of the objective row, of a column, and of each row that is not 0 in it. Takes no memory.
-//
-// A program's last row caps column 0, so no run is unbounded, and no answer says that it is.
+//! Runs of pivots by Bland's rule (R. G. Bland, "New finite pivoting rules for the simplex method", 1977): of the columns
+//! with a positive entry in the objective row the lowest enters, and of the rows of least ratio the one leaves whose basic
+//! column is the lowest.
+//!
+//! - `run`: pivots until nothing is left to choose, a number would pass 128 bits, or the budget of pivots is spent. A pivot
+//!   costs a scan of the objective row, of a column, and of each row that is not 0 in it. Takes no memory.
+//!
+//! A program's last row caps column 0, so no run is unbounded, and no answer says that it is.
 #![tactic(auto)]
 
 mod bland;

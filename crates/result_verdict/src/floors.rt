@@ -38,9 +38,6 @@ impl Floors {
     /// Whether each bet is paid more than all three stake, where its result comes. One score stands for
     /// each result, as a bet on the result is paid the same at every score of that result.
     pub fn wins(&self, trio: &Trio) -> bool
-        requires home { self.now.home ≤ trio.now.home.offer.limit }
-        requires draw { self.now.draw ≤ trio.now.draw.offer.limit }
-        requires away { self.now.away ≤ trio.now.away.offer.limit }
         ensures { IsTrue result ↔ Wins trio.now self.now }
     {
         let staked = u64::from(self.home) + u64::from(self.draw) + u64::from(self.away);

@@ -1,11 +1,11 @@
-// Definitions about rows of whole numbers without bound: the greatest common divisor of a row, its primitive, the
-// combination of two rows that a pivot makes, and where that passes 128 bits. There is no code here: the definitions
-// stand in specs/, and each function below has an empty body and a law of the definitions as its contract.
-//
-// - `divisor_law`: the divisor of a row is the greatest common divisor of its entries.
-// - `primitive_law`: a row is a positive multiple of its primitive, and rows of one direction have one primitive.
-// - `combination_law`: to combine primitives gives the primitive of the plain combination.
-// - `passing_law`: a combination passes 128 bits nowhere, or first in one column.
+//! Definitions about rows of whole numbers without bound: the greatest common divisor of a row, its primitive, the
+//! combination of two rows that a pivot makes, and where that passes 128 bits. There is no code here: the definitions
+//! stand in specs/, and each function below has an empty body and a law of the definitions as its contract.
+//!
+//! - `divisor_law`: the divisor of a row is the greatest common divisor of its entries.
+//! - `primitive_law`: a row is a positive multiple of its primitive, and rows of one direction have one primitive.
+//! - `combination_law`: to combine primitives gives the primitive of the plain combination.
+//! - `passing_law`: a combination passes 128 bits nowhere, or first in one column.
 #![tactic(auto)]
 
 ghost use Rattle.row_definitions.specs.Laws.{DivisorDivides, DivisorIsGreatest, RowIsMultipleOfPrimitive, ZeroRowStays, PrimitiveKeepsDirection, MultipleKeepsSigns, PrimitiveStays, UnitEntryIsPrimitive, PrimitiveFits, PrimitiveOfMultiple, PrimitiveOfProportional, CombinedIsPlain, CombinedOfKeptForms, CombinedKeepsDirection, CombinedFits, CombinedIsZeroThere, ZeroThereStays, ZeroThereFits, PassesFirstOnce, PassesFirstOrNowhere};
