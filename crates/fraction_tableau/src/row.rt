@@ -25,6 +25,14 @@ impl Model for Row {
 }
 
 impl Row {
+    // A row of these numbers.
+    #[cfg(test)]
+    pub(crate) fn of(entries: Vec<i128>) -> Row
+        ensures { result ≡ entries.items }
+    {
+        Row { entries }
+    }
+
     pub(crate) fn constraint(
         alloc: Global,
         program: &Program,

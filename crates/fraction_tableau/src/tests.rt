@@ -1,4 +1,7 @@
+ghost use Rattle.std.specs.Prelude.{◌≡◌, IfOk};
+
 use super::*;
+use crate::row::Row;
 use std::alloc::Global;
 use std::process::Abort;
 use std::test::Fail;
@@ -127,6 +130,44 @@ fn passes_in_the_right_side(rt: HostRuntime) -> Result<(), Fail> {
         pivoted(&rt, &mut tableau, 1, 0),
         Err(Passed2 { row: 0, column: 3 })
     );
+    Ok(())
+}
+
+fn row(alloc: Global, numbers: &[i128]) -> Result<Row, Fail>
+    ensures { IfOk result (λ row. row ≡ numbers.now) }
+{
+    Ok(Row::of(numbers.to_vec(alloc)?))
+}
+
+// A tableau that no program builds: one constraint row, and an objective row whose second number is large.
+fn large_objective(alloc: Global) -> Result<Tableau, Fail> {
+    let mut rows = Vec::new(alloc);
+    rows.push(row(alloc, &[3, 1, 0])?)?;
+    rows.push(row(alloc, &[1, LARGE, 0])?)?;
+    let mut basis = Vec::new(alloc);
+    basis.push(1)?;
+    Ok(Tableau {
+        columns: 1,
+        rows,
+        basis,
+    })
+}
+
+#[test]
+fn passes_in_the_objective_row(rt: HostRuntime) -> Result<(), Fail> {
+    // 3 * 2^126 is past 2^127 - 1.
+    let mut tableau = large_objective(rt.alloc())?;
+    assert_eq!(rt;
+        pivoted(&rt, &mut tableau, 0, 0),
+        Err(Passed2 { row: 1, column: 1 })
+    );
+    assert_eq!(rt;
+        entries(&rt, rt.alloc(), &tableau, 1)?.as_slice(),
+        [1, LARGE, 0].as_slice()
+    );
+    let rows = tableau.rows();
+    assert!(rt; rows == 1);
+    assert_eq!(rt; tableau.basic(0), 1);
     Ok(())
 }
 
