@@ -9,6 +9,7 @@
 mod combination;
 mod division;
 mod divisor;
+mod exact;
 mod narrow;
 
 pub use combination::{Passed, combine, combine_within, first_passing};

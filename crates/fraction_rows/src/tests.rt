@@ -36,6 +36,45 @@ fn primitive_keeps_signs(rt: HostRuntime) {
 }
 
 #[test]
+fn primitive_divides_by_odd_and_even_divisors(rt: HostRuntime) {
+    // 12 times 2^100, -(2^63 - 1), 0 and 7.
+    let mut row = [
+        0xc0_0000_0000_0000_0000_0000_0000,
+        -0x5_ffff_ffff_ffff_fff4,
+        0,
+        84,
+    ];
+    primitive(&mut row);
+    assert_eq!(rt;
+        row,
+        [
+            0x10_0000_0000_0000_0000_0000_0000,
+            -0x7fff_ffff_ffff_ffff,
+            0,
+            7
+        ]
+    );
+    // 2^125 times 2 and -1.
+    let mut twos = [
+        0x4000_0000_0000_0000_0000_0000_0000_0000,
+        -0x2000_0000_0000_0000_0000_0000_0000_0000,
+    ];
+    primitive(&mut twos);
+    assert_eq!(rt; twos, [2, -1]);
+    // 10^18 + 9, a prime, times 10^18 + 9, -1 and -170141183460469228.
+    let mut odd = [
+        1_000_000_000_000_000_018_000_000_000_000_000_081,
+        -1_000_000_000_000_000_009,
+        -170_141_183_460_469_229_531_270_651_144_223_052,
+    ];
+    primitive(&mut odd);
+    assert_eq!(rt;
+        odd,
+        [1_000_000_000_000_000_009, -1, -170_141_183_460_469_228]
+    );
+}
+
+#[test]
 fn zeros_stay(rt: HostRuntime) {
     let mut row = [0, 0];
     primitive(&mut row);

@@ -1,0 +1,105 @@
+-- Inverses of odd numbers modulo 2^128 by Newton's method, and exact division by them.
+use Rattle.std.proofs.Common.{◌≡◌, ℕ, zero, suc, ◌+◌, ◌-◌, ◌*◌, ◌/◌, ◌%◌, ◌^◌, ◌<◌, ℤ, pos, negsuc, ◌+ℤ◌, ◌-ℤ◌, ◌*ℤ◌, neg_ℤ, unsigned_abs, refl, sym, ap, ap₂, ◌∙◌, arith, lt_of_le_of_lt}
+use Rattle.std.specs.Int.{◌∣◌, w128, cast_signed, int_wrap}
+use Rattle.std.proofs.lemmas.Int.{ints, int_wrap_fits, int_wrap-mul_left, int_wrap-mul_right, int_wrap-sub_right, wrapping_mul-bits, wrapping_sub-bits, fits_signed_from_abs}
+use Rattle.std.proofs.lemmas.Nat.{pow-add}
+use Rattle.std.proofs.Math.IntN.{*ℤ_comm, zero-*ℤ}
+use Rattle.std.proofs.Math.Nat.{mul-div_cancel_left, pow-suc, mod-lt}
+use lib.Arith.{digits_div}
+use lib.Count.{count_trailing_zeros, under}
+use lib.Pow.{pow_pos}
+use lib.Signed.{shr_z}
+use Rattle.row_definitions.specs.Rows.{divided}
+use Rattle.row_definitions.specs.Combination.{FitsEntry}
+use Rattle.row_definitions.proofs.Numbers.{divided-exact, one-*ℤ, *ℤ-+ℤ, *ℤ--ℤ, *ℤ_assoc, *ℤ_swap, unsigned_abs-divided-le}
+use Rattle.fraction_rows.specs.Exact.{IsInverted}
+
+-- ---- the odd part
+
+twice_first : (p m : ℕ) → p * m * 2 ≡ p * 2 * m
+twice_first p m = omega arith
+
+by_digit : (n r t : ℕ) → n % 2 ≡ r → 0 < n → (0 < n / 2 → (half : ℕ) × (n / 2 ≡ 2 ^ t * (1 + 2 * half))) → (half : ℕ) × (n ≡ 2 ^ under r t * (1 + 2 * half))
+by_digit n zero t even positive rest =
+    let h = rest (omega arith) in
+    let twice : n ≡ n / 2 * 2 = omega arith in
+    (h.0, twice ∙ ap (λ m. m * 2) h.1 ∙ twice_first (2 ^ t) (1 + 2 * h.0) ∙ ap (λ p. p * (1 + 2 * h.0)) (sym (pow-suc 2 t)))
+by_digit n (suc r) t odd positive rest = (n / 2, omega arith)
+
+-- a number above 0 is a power of two, by its trailing zeros, times an odd number
+pub odd_part : (digits n : ℕ) → 0 < n → n < 2 ^ digits → (half : ℕ) × (n ≡ 2 ^ count_trailing_zeros digits n * (1 + 2 * half))
+unfolding count_trailing_zeros
+odd_part zero n positive below = absurd (omega arith)
+odd_part (suc digits) n positive below = by_digit n (n % 2) (count_trailing_zeros digits (n / 2)) refl positive (λ some. odd_part digits (n / 2) some (omega (arith, pow-suc 2 digits)))
+
+-- a shift takes a power of two away
+shifted : (m : ℕ) (z : ℤ) → 0 < m → shr_z (pos m *ℤ z) m ≡ z
+shifted m (pos n) some = ap pos (mul-div_cancel_left n some)
+shifted m (negsuc n) some =
+    let size : m * suc n ≡ suc (n * m + (m - 1)) = omega arith in
+    ap (λ k. shr_z (neg_ℤ (pos k)) m) size ∙ ap negsuc (digits_div n (omega arith))
+
+-- ---- Newton's method
+
+-- what is left of `z * (2 - z)` depends on what is left of z alone
+through : (z : ℤ) → int_wrap w128 (int_wrap w128 z *ℤ (pos 2 -ℤ int_wrap w128 z)) ≡ int_wrap w128 (z *ℤ (pos 2 -ℤ z))
+through z =
+    int_wrap-mul_left w128 z (pos 2 -ℤ int_wrap w128 z) ∙ sym (int_wrap-mul_right w128 z (pos 2 -ℤ int_wrap w128 z))
+    ∙ ap (λ y. int_wrap w128 (z *ℤ y)) (int_wrap-sub_right w128 (pos 2) z) ∙ int_wrap-mul_right w128 z (pos 2 -ℤ z)
+
+pub times-one : (z : ℤ) → z *ℤ pos 1 ≡ z
+times-one z = *ℤ_comm z (pos 1) ∙ one-*ℤ z
+
+square : (e : ℤ) → (pos 1 -ℤ e) *ℤ (pos 2 -ℤ (pos 1 -ℤ e)) ≡ pos 1 -ℤ e *ℤ e
+square e =
+    let f = pos 1 -ℤ e in
+    let other : pos 2 -ℤ f ≡ pos 1 +ℤ e = omega (arith, ints) in
+    let product : f *ℤ e ≡ e -ℤ e *ℤ e = *ℤ_comm f e ∙ *ℤ--ℤ e (pos 1) e ∙ ap (λ z. z -ℤ e *ℤ e) (times-one e) in
+    ap (λ z. f *ℤ z) other ∙ *ℤ-+ℤ f (pos 1) e ∙ ap₂ (λ y z. y +ℤ z) (times-one f) product ∙ omega (arith, ints)
+
+-- a number that is 1 less some error becomes 1 less the error's square
+round : (u e : ℤ) → int_wrap w128 u ≡ int_wrap w128 (pos 1 -ℤ e) → int_wrap w128 (u *ℤ (pos 2 -ℤ u)) ≡ int_wrap w128 (pos 1 -ℤ e *ℤ e)
+round u e h = sym (through u) ∙ ap (λ y. int_wrap w128 (y *ℤ (pos 2 -ℤ y))) h ∙ through (pos 1 -ℤ e) ∙ ap (int_wrap w128) (square e)
+
+-- twice as many of the lowest bits are right
+pub more_bits : (odd inverse k : ℤ) (i : ℕ) → int_wrap w128 (odd *ℤ inverse) ≡ int_wrap w128 (pos 1 -ℤ pos (2 ^ (2 ^ i)) *ℤ k)
+    → int_wrap w128 (odd *ℤ int_wrap w128 (inverse *ℤ (pos 2 -ℤ odd *ℤ inverse))) ≡ int_wrap w128 (pos 1 -ℤ pos (2 ^ (2 ^ (i + 1))) *ℤ (k *ℤ k))
+more_bits odd inverse k i h =
+    let p = pos (2 ^ (2 ^ i)) in
+    let double : 2 ^ i + 2 ^ i ≡ 2 ^ (i + 1) = omega (arith, pow-add 2 i 1) in
+    let powers : p *ℤ p ≡ pos (2 ^ (2 ^ (i + 1))) = ap pos (sym (pow-add 2 (2 ^ i) (2 ^ i)) ∙ ap (λ n. 2 ^ n) double) in
+    int_wrap-mul_right w128 odd (inverse *ℤ (pos 2 -ℤ odd *ℤ inverse)) ∙ ap (int_wrap w128) (sym (*ℤ_assoc odd inverse (pos 2 -ℤ odd *ℤ inverse))) ∙ round (odd *ℤ inverse) (p *ℤ k) h
+    ∙ ap (λ e. int_wrap w128 (pos 1 -ℤ e)) (*ℤ_swap p k p k ∙ ap (λ q. q *ℤ (k *ℤ k)) powers)
+
+-- a round as the machine makes it, on bits
+pub round_on_bits : (a b : ℕ) → a < 2 ^ 128 → b < 2 ^ 128
+    → cast_signed w128 ((b * ((2 + (2 ^ 128 - (a * b) % 2 ^ 128)) % 2 ^ 128)) % 2 ^ 128) ≡ int_wrap w128 (cast_signed w128 b *ℤ (pos 2 -ℤ cast_signed w128 a *ℤ cast_signed w128 b))
+round_on_bits a b a_fits b_fits =
+    let x = cast_signed w128 a in
+    let y = cast_signed w128 b in
+    let m = (a * b) % 2 ^ 128 in
+    let k = (2 + (2 ^ 128 - m)) % 2 ^ 128 in
+    let product : cast_signed w128 m ≡ int_wrap w128 (x *ℤ y) = wrapping_mul-bits w128 a b a_fits b_fits in
+    let rest : cast_signed w128 k ≡ int_wrap w128 (pos 2 -ℤ x *ℤ y) =
+    wrapping_sub-bits w128 2 m (omega arith) (mod-lt (a * b) (omega arith)) ∙ ap (λ z. int_wrap w128 (pos 2 -ℤ z)) product ∙ int_wrap-sub_right w128 (pos 2) (x *ℤ y) in
+    wrapping_mul-bits w128 b k b_fits (mod-lt (2 + (2 ^ 128 - m)) (omega arith)) ∙ ap (λ z. int_wrap w128 (y *ℤ z)) rest ∙ int_wrap-mul_right w128 y (pos 2 -ℤ x *ℤ y)
+
+-- after seven rounds all 128 are
+pub all_bits : (k : ℤ) → int_wrap w128 (pos 1 -ℤ pos (2 ^ (2 ^ 7)) *ℤ k) ≡ pos 1
+unfolding int_wrap
+all_bits k =
+    let none : int_wrap w128 (pos (2 ^ (2 ^ 7)) *ℤ k) ≡ pos 0 = sym (int_wrap-mul_left w128 (pos (2 ^ (2 ^ 7))) k) ∙ ap (int_wrap w128) (zero-*ℤ k) in
+    sym (int_wrap-sub_right w128 (pos 1) (pos (2 ^ (2 ^ 7)) *ℤ k)) ∙ ap (λ z. int_wrap w128 (pos 1 -ℤ z)) none
+
+-- ---- the quotient
+
+pub exact_quotient : (divisor twos : ℕ) (inverse x : ℤ) → IsInverted divisor twos inverse → divisor ∣ unsigned_abs x → FitsEntry x → int_wrap w128 (shr_z x (2 ^ twos) *ℤ inverse) ≡ divided divisor x
+exact_quotient divisor twos inverse x inverted divides fits =
+    let y = divided divisor x in
+    let odd = pos inverted.odd in
+    let whole : x ≡ pos (2 ^ twos) *ℤ (odd *ℤ y) = sym (divided-exact divisor x divides) ∙ ap (λ d. pos d *ℤ y) inverted.is ∙ *ℤ_assoc (pos (2 ^ twos)) odd y in
+    let shift : shr_z x (2 ^ twos) ≡ odd *ℤ y = ap (λ z. shr_z z (2 ^ twos)) whole ∙ shifted (2 ^ twos) (odd *ℤ y) (pow_pos twos) in
+    let regrouped : (odd *ℤ y) *ℤ inverse ≡ y *ℤ (odd *ℤ inverse) = ap (λ z. z *ℤ inverse) (*ℤ_comm odd y) ∙ *ℤ_assoc y odd inverse in
+    let y_fits = fits_signed_from_abs w128 y (lt_of_le_of_lt (unsigned_abs-divided-le divisor x) fits) in
+    ap (λ z. int_wrap w128 (z *ℤ inverse)) shift ∙ ap (int_wrap w128) regrouped ∙ sym (int_wrap-mul_right w128 y (odd *ℤ inverse))
+    ∙ ap (λ z. int_wrap w128 (y *ℤ z)) inverted.unit ∙ ap (int_wrap w128) (times-one y) ∙ int_wrap_fits w128 y y_fits

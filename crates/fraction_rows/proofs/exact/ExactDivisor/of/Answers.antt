@@ -1,0 +1,44 @@
+use Rattle.std.proofs.Common.{◌≡◌, ℕ, ◌*◌, ◌+◌, ◌/◌, ◌^◌, ◌<◌, pos, ◌*ℤ◌, ap, sym, ◌∙◌, arith, SFits, to_z, to_z-of_z, rules, div-le_self, lt_of_le_of_lt}
+use Rattle.std.specs.Int.{w128, int_wrap}
+use Rattle.std.proofs.lemmas.Int.{to_z_pos}
+use Rattle.std.proofs.Math.Nat.{mul-div_cancel_left}
+use lib.Count.{count_trailing_zeros}
+use lib.Pow.{pow_pos}
+use Rattle.fraction_rows.proofs.Inverses.{odd_part}
+use Rattle.fraction_rows.proofs.exact.ExactDivisor.of.Goals as goal
+
+-- the odd part of a divisor, and that it is odd
+power : ℕ → ℕ
+power n = 2 ^ count_trailing_zeros 128 n
+
+module _ (n : ℕ) (positive : 0 < n) (fits : n < 2 ^ 127) where
+  part : (half : ℕ) × (n ≡ power n * (1 + 2 * half))
+  unfolding power
+  part = odd_part 128 n positive (omega arith)
+
+  odd_is : n / power n ≡ 1 + 2 * part.0
+  unfolding power
+  odd_is = ap (λ k. k / power n) part.1 ∙ mul-div_cancel_left (1 + 2 * part.0) (pow_pos (count_trailing_zeros 128 n))
+
+  whole : n ≡ power n * (n / power n)
+  whole = part.1 ∙ ap (λ m. power n * m) (sym odd_is)
+
+  signed : to_z w128 (n / power n) ≡ pos (n / power n)
+  signed = to_z_pos w128 (n / power n) (lt_of_le_of_lt (div-le_self n (power n)) fits)
+
+pub inverse_of-requires : goal.inverse_of-requires
+unfolding power
+inverse_of-requires c =
+    let n = c.args.divisor in
+    (pos (part n c.requires.positive c.requires.fits).0, signed n c.requires.positive c.requires.fits ∙ ap pos (odd_is n c.requires.positive c.requires.fits))
+
+pub returns : goal.returns
+unfolding power
+returns c =
+    let n = c.args.divisor in
+    let inverse_fits : SFits w128 c.inverse_of.result = search rules in
+    record {
+      odd = n / power n;
+      is = whole n c.requires.positive c.requires.fits;
+      unit = ap (λ z. int_wrap w128 (pos (n / power n) *ℤ z)) (to_z-of_z inverse_fits) ∙ ap (λ z. int_wrap w128 (z *ℤ c.inverse_of.result)) (sym (signed n c.requires.positive c.requires.fits)) ∙ c.inverse_of.ensures;
+    }
