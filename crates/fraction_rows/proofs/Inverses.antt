@@ -12,7 +12,7 @@ use lib.Signed.{shr_z}
 use Rattle.row_definitions.specs.Rows.{divided}
 use Rattle.row_definitions.specs.Combination.{FitsEntry}
 use Rattle.row_definitions.proofs.Numbers.{divided-exact, one-*ℤ, *ℤ-+ℤ, *ℤ--ℤ, *ℤ_assoc, *ℤ_swap, unsigned_abs-divided-le}
-use Rattle.fraction_rows.specs.Exact.{IsInverted}
+use Rattle.fraction_rows.specs.Exact.{HasInverse}
 
 -- ---- the odd part
 
@@ -93,7 +93,7 @@ all_bits k =
 
 -- ---- the quotient
 
-pub exact_quotient : (divisor twos : ℕ) (inverse x : ℤ) → IsInverted divisor twos inverse → divisor ∣ unsigned_abs x → FitsEntry x → int_wrap w128 (shr_z x (2 ^ twos) *ℤ inverse) ≡ divided divisor x
+pub exact_quotient : (divisor twos : ℕ) (inverse x : ℤ) → HasInverse divisor twos inverse → divisor ∣ unsigned_abs x → FitsEntry x → int_wrap w128 (shr_z x (2 ^ twos) *ℤ inverse) ≡ divided divisor x
 exact_quotient divisor twos inverse x inverted divides fits =
     let y = divided divisor x in
     let odd = pos inverted.odd in

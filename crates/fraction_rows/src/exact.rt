@@ -4,7 +4,7 @@ ghost use Rattle.std.specs.Prelude.{◌≡◌, ℕ, ◌<◌, ◌^◌, ℤ, pos, 
 ghost use Rattle.std.specs.Int.{◌∣◌, w128, int_wrap};
 ghost use Rattle.row_definitions.specs.Rows.{divided};
 ghost use Rattle.row_definitions.specs.Combination.{FitsEntry};
-ghost use Rattle.fraction_rows.specs.Exact.{IsInverted};
+ghost use Rattle.fraction_rows.specs.Exact.{HasInverse};
 
 // A divisor: how often 2 divides it, and the inverse of the odd rest modulo 2^128.
 #[derive(Clone, Copy)]
@@ -15,10 +15,11 @@ pub(crate) struct ExactDivisor {
 }
 
 impl ExactDivisor {
+    // Costs fourteen products, once a row.
     pub(crate) fn of(divisor: u128) -> ExactDivisor
         requires positive { 0 < divisor }
         requires fits { divisor < 2 ^ 127 }
-        ensures { IsInverted divisor result.twos result.inverse }
+        ensures { HasInverse divisor result.twos result.inverse }
     {
         let twos = divisor.trailing_zeros();
         ExactDivisor {
@@ -30,7 +31,7 @@ impl ExactDivisor {
     // The quotient of a number that the divisor divides.
     pub(crate) fn quotient(self, x: i128) -> i128
         requires { FitsEntry x }
-        ensures { (divisor : ℕ) → IsInverted divisor self.twos self.inverse → divisor ∣ unsigned_abs x → result ≡ divided divisor x }
+        ensures { (divisor : ℕ) → HasInverse divisor self.twos self.inverse → divisor ∣ unsigned_abs x → result ≡ divided divisor x }
     {
         (x >> self.twos).wrapping_mul(self.inverse)
     }
