@@ -1,5 +1,6 @@
 pub mod Opened
 pub mod ReadingSteps
+pub mod CutOff
 pub mod FeedOf
 pub mod ReadAll
 pub mod Course

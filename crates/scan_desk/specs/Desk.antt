@@ -76,16 +76,23 @@ abbrev pub IsWritten : Due → ℕ → Option (List ℕ) → Option (List ℕ) �
 IsWritten due status old new faults_before faults_after =
     ((status ≡ due.status) × Appends old new due.text) ⊎ ((status ≡ 5) × AppendsPrefix old new due.text × Rose faults_before faults_after)
 
--- what a run does: what is due is written; or memory was wanting, the status is 7, and nothing is written
+-- memory was wanting: so many feeds were to be read, and those of them that were begun were read so; where the last of these stopped at
+-- its end, all were
+pub record IsCutRun {S : Type 0} (left : S → Option (List ℕ)) (faults : S → ℕ) (told : ℕ → Option (List ℕ)) (count : ℕ) (ends : List (FeedEnd S)) : Type 0 where
+  pub texts : List (List ℕ)
+  pub read : AreReadSo left faults told [] 0 ends texts
+  pub last : (ends ≡ []) ⊎ ((stop : FeedStop) × StopsAtLast stop ends × (stop ≡ stops.End → length ends ≡ count))
+
+-- what a run does: what is due is written; or the words name feeds, memory was wanting, the status is 7, and nothing is written
 abbrev pub IsCourse : {S : Type 0} → (S → Option (List ℕ)) → (S → ℕ) → (List ℕ → Option (List (List ℕ))) → List (List ℕ) → ℕ → ℕ → List (FeedEnd S) → ℕ → Option (List ℕ) → Option (List ℕ) → ℕ → ℕ → Type 0
 IsCourse left faults told words opener_before opener_after ends status old new sink_before sink_after =
     ((due : Due) × IsDue left faults told words opener_before opener_after ends due × IsWritten due status old new sink_before sink_after)
-    ⊎ ((status ≡ 7) × Keeps old new)
+    ⊎ ((status ≡ 7) × Keeps old new × (names : List (List ℕ)) × (named_feeds words ≡ Some names) × IsCutRun left faults (told_bytes told names) (length names) ends)
 
 -- the same after the feeds were opened
 abbrev pub IsCourseOfRun : {S : Type 0} → (S → Option (List ℕ)) → (S → ℕ) → (ℕ → Option (List ℕ)) → ℕ → List (FeedEnd S) → ℕ → Option (List ℕ) → Option (List ℕ) → ℕ → ℕ → Type 0
 IsCourseOfRun left faults told count ends status old new sink_before sink_after =
-    ((due : Due) × IsRun left faults told count ends due × IsWritten due status old new sink_before sink_after) ⊎ ((status ≡ 7) × Keeps old new)
+    ((due : Due) × IsRun left faults told count ends due × IsWritten due status old new sink_before sink_after) ⊎ ((status ≡ 7) × Keeps old new × IsCutRun left faults told count ends)
 
 -- every named feed was read to its end, and the sink got the report of what was read
 pub record IsReported {S : Type 0} (left : S → Option (List ℕ)) (faults : S → ℕ) (told : List ℕ → Option (List (List ℕ))) (words : List (List ℕ)) (ends : List (FeedEnd S)) (old new : Option (List ℕ)) : Type 0 where
