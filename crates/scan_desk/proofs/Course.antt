@@ -52,19 +52,21 @@ course_of_run left faults told count ends feeds stop status answer (Ok text) old
         read = read.read;
         stop = stop;
         stop_is = read.stop_is;
+        few = read.few;
         all = λ e. (read.whole e).0;
         due_is = due read.texts (λ e. parts_are read.texts feeds (read.whole e).1);
       },
       written,
     )
 course_of_run left faults told count ends feeds stop status answer (Err _) old new sink_before sink_after read due written =
-    inr (written.0, written.1, record { texts = read.texts; read = read.read; last = inr (stop, read.stop_is, λ e. (read.whole e).0) })
+    inr (written.0, written.1, record { texts = read.texts; read = read.read; few = read.few; last = inr (stop, read.stop_is, λ e. (read.whole e).0) })
 
 -- no feed was begun
 pub none_begun : {S : Type 0} (left : S → Option (List ℕ)) (faults : S → ℕ) (told : ℕ → Option (List ℕ)) (count : ℕ) (ends : List (FeedEnd S)) → ends ≡ [] → IsCutRun left faults told count ends
 none_begun left faults told count ends e = record {
   texts = [];
   read = let P : List (FeedEnd _) → Type 0 = λ xs. AreReadSo left faults told [] 0 xs [] in subst P (sym e) tt;
+  few = let P : List (FeedEnd _) → Type 0 = λ xs. length xs ≤ count in subst P (sym e) (omega arith);
   last = inl e;
 }
 

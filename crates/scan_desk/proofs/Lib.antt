@@ -5,3 +5,4 @@ pub mod FeedOf
 pub mod ReadAll
 pub mod Course
 pub mod Statuses
+pub mod Complete

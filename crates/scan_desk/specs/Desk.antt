@@ -1,5 +1,5 @@
 -- What a run of the desk does.
-use Rattle.std.specs.Prelude.{ℕ, ◌≡◌, ◌<◌, ◌+◌, ◌-◌, ◌⊎◌, List, [], length, map, Option, None, Some, All, IsSomeAnd, slice_get}
+use Rattle.std.specs.Prelude.{ℕ, ◌≡◌, ◌<◌, ◌≤◌, ◌+◌, ◌-◌, ◌⊎◌, List, [], length, map, Option, None, Some, All, IsSomeAnd, slice_get}
 use Rattle.std.specs.Io.KnownBytes.{Appends, Keeps}
 use Rattle.desk_io.specs.Faults.{Rose}
 use Rattle.desk_io.specs.Sink.{AppendsPrefix}
@@ -62,6 +62,7 @@ pub record IsRun {S : Type 0} (left : S → Option (List ℕ)) (faults : S → �
   pub read : AreReadSo left faults told [] 0 ends texts
   pub stop : FeedStop
   pub stop_is : StopsAtLast stop ends
+  pub few : length ends ≤ count
   pub all : stop ≡ stops.End → length ends ≡ count
   pub due_is : IsDueAfter stop ends texts due
 
@@ -81,6 +82,7 @@ IsWritten due status old new faults_before faults_after =
 pub record IsCutRun {S : Type 0} (left : S → Option (List ℕ)) (faults : S → ℕ) (told : ℕ → Option (List ℕ)) (count : ℕ) (ends : List (FeedEnd S)) : Type 0 where
   pub texts : List (List ℕ)
   pub read : AreReadSo left faults told [] 0 ends texts
+  pub few : length ends ≤ count
   pub last : (ends ≡ []) ⊎ ((stop : FeedStop) × StopsAtLast stop ends × (stop ≡ stops.End → length ends ≡ count))
 
 -- what a run does: what is due is written; or the words name feeds, memory was wanting, the status is 7, and nothing is written
@@ -109,3 +111,13 @@ pub record IsReported {S : Type 0} (left : S → Option (List ℕ)) (faults : S 
 -- the status is this one, or gives way to a failed write or to want of memory
 abbrev pub IsOrYields : ℕ → ℕ → Type 0
 IsOrYields due status = (status ≡ due) ⊎ ((status ≡ 5) ⊎ (status ≡ 7))
+
+-- no fault was counted: the count did not rise, and is not at its type's end, where it stands still
+abbrev pub HasNotRisen : ℕ → ℕ → Type 0
+HasNotRisen old new = Rose old new → ⊥
+
+-- no opening failed, no read of the feeds that were begun and no write
+pub record HasNoFault {S : Type 0} (faults : S → ℕ) (opener_before opener_after : ℕ) (ends : List (FeedEnd S)) (sink_before sink_after : ℕ) : Type 0 where
+  pub opener : HasNotRisen opener_before opener_after
+  pub sources : All (λ end. faults end.source ≡ 0) ends
+  pub sink : HasNotRisen sink_before sink_after
