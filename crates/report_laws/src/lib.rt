@@ -1,5 +1,5 @@
 //! Why feeds have one report: what a sheet, a list of matches and a report have to be leaves no choice of any of them. So every
-//! program that meets these definitions writes the same bytes.
+//! program that meets these definitions writes the same bytes of a report.
 //!
 //! Each function is empty: its clause is the law.
 #![tactic(auto)]

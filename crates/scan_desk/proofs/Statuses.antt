@@ -1,6 +1,5 @@
 -- What each status of a run says.
 use Rattle.std.proofs.Common.{◌≡◌, ◌≢◌, ℕ, ◌+◌, ◌-◌, List, [], ◌∷◌, length, Option, Some, None, refl, sym, ap, ◌∙◌, subst, arith, inl, inr, ◌⊎◌, slice_get, IsSomeAnd, IsSome}
-use Rattle.std.proofs.lemmas.Bool.{false≢true}
 use Rattle.std.specs.Io.KnownBytes.{Keeps}
 use Rattle.desk_io.specs.Faults.{Rose}
 use Rattle.scan_desk.specs.declared.feed_end.FeedEnd.{FeedEnd}
@@ -175,15 +174,12 @@ answered_with words opener_before opener_after ends status old new sink_before s
       | inr so ↦ elim so.2 [ inl same ↦ inl (same ∙ is so.0.status so.1) | inr broken ↦ inr (inl broken.0) ]
     ]
 
-no_command_says : {S : Type 0} (words : List (List ℕ)) (opener_before opener_after : ℕ) (ends : List (FeedEnd S)) (status : ℕ) → named_feeds words ≡ None → DueSays words opener_before opener_after ends status → status ≡ 2
-no_command_says words opener_before opener_after ends status e (inl none) = none.0
-no_command_says words opener_before opener_after ends status e (inr (inl unopened)) = let P : Option (List (List ℕ)) → Type 0 = λ o. IsSome o in absurd (false≢true (subst P e unopened.1))
-no_command_says words opener_before opener_after ends status e (inr (inr run)) = let P : Option (List (List ℕ)) → Type 0 = λ o. IsSome o in absurd (false≢true (subst P e run.0))
-
-pub no_command_due : {S : Type 0} (words : List (List ℕ)) (opener_before opener_after : ℕ) (ends : List (FeedEnd S)) (status : ℕ) (old new : Option (List ℕ)) (sink_before sink_after : ℕ)
-    → IsAnswer words opener_before opener_after ends status old new sink_before sink_after → named_feeds words ≡ None → IsOrYields 2 status
-no_command_due words opener_before opener_after ends status old new sink_before sink_after a e =
-    answered_with words opener_before opener_after ends status old new sink_before sink_after 2 (λ n. no_command_says words opener_before opener_after ends n e) a
+pub no_command_due : {S : Type 0} (left : S → Option (List ℕ)) (faults : S → ℕ) (told : List ℕ → Option (List (List ℕ))) (words : List (List ℕ)) (opener_before opener_after : ℕ) (ends : List (FeedEnd S)) (status : ℕ) (old new : Option (List ℕ)) (sink_before sink_after : ℕ)
+    → IsCourse left faults told words opener_before opener_after ends status old new sink_before sink_after → named_feeds words ≡ None → (status ≡ 2) ⊎ (status ≡ 5)
+no_command_due left faults told words opener_before opener_after ends status old new sink_before sink_after (inr (seven, kept, names, named, run)) e = let wrong = sym e ∙ named in absurd (cc)
+no_command_due left faults told words opener_before opener_after ends status old new sink_before sink_after (inl (due, inr (names, named, rest), written)) e = let wrong = sym e ∙ named in absurd (cc)
+no_command_due left faults told words opener_before opener_after ends status old new sink_before sink_after (inl (due, inl none, inl written)) e = inl (omega (arith, written.0, ap (λ d. d.status) none.due_is))
+no_command_due left faults told words opener_before opener_after ends status old new sink_before sink_after (inl (due, inl none, inr broken)) e = inr broken.0
 
 -- the status that goes with a stop
 stop_says : {S : Type 0} (words : List (List ℕ)) (opener_before opener_after : ℕ) (ends : List (FeedEnd S)) (stop : FeedStop) (status : ℕ) → StopsAtLast stop ends → DueSays words opener_before opener_after ends status → StatusOf stop status

@@ -18,9 +18,11 @@ pub enum FeedStop {
 pub struct FeedEnd<S: Drop> {
     /// The number of the feed, from 0, in the order of the words.
     pub feed: u8,
+    /// Its header, where that was read and does not bear an earlier feed's book name.
     pub header: Option<Header>,
-    /// How many lines were answered, the header included.
+    /// How many lines were answered, the header included: at most 16,384, and 0 where there is no header.
     pub lines: u32,
     pub stop: FeedStop,
+    /// The source, with what was not taken of it.
     pub source: S,
 }

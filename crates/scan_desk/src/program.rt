@@ -90,10 +90,11 @@ fn run<O: Opener, K: Sink>(
 }
 
 /// Runs the command that the words name. `once FEED` or `once FEED FEED` opens the feeds in order, reads them one after another, each to
-/// its end or to the first step that stops it before, and writes their report; or one error line, with the status of its cause.
+/// its end or to the first step that stops it before, and writes their report; or one error line, with the status of its cause; or, at
+/// want of memory, nothing.
 ///
-/// Takes time in the bytes of the feeds and, for each accepted line, in the logarithm of the number of matches; and memory for the bytes
-/// that are read, the accepted lines and the report.
+/// Takes time in the bytes of the feeds and, for each accepted line, in the number of match names of its feed, at most 256, and in the
+/// logarithm of the number of all matches; and memory for the bytes that are read, the accepted lines and the report.
 pub fn desk<O: Opener, K: Sink>(
     alloc: Global,
     words: &[String],
@@ -112,9 +113,10 @@ pub fn desk<O: Opener, K: Sink>(
     ensures complete { NamePlainFeeds (O.told opener.old) (map string_bytes words.now) →
         HasNoFault O.S.faults (O.faults opener.old) (O.faults opener.new) result.feeds.items (K.faults sink.old) (K.faults sink.new) → (result.status ≡ 0) ⊎ (result.status ≡ 7) }
 
-    // Each other status has its cause; a cause has its status, unless a write fails or memory is wanting.
+    // Each other status but 7 has its cause. Words that are no command, a failed read and a line that is not built also have their
+    // status, unless a write fails or memory is wanting; words that are no command take none.
     ensures no_command { result.status ≡ 2 → named_feeds (map string_bytes words.now) ≡ None }
-    ensures no_command_due { named_feeds (map string_bytes words.now) ≡ None → IsOrYields 2 result.status }
+    ensures no_command_due { named_feeds (map string_bytes words.now) ≡ None → (result.status ≡ 2) ⊎ (result.status ≡ 5) }
     ensures not_opened { result.status ≡ 3 → Rose (O.faults opener.old) (O.faults opener.new) }
     ensures not_read { result.status ≡ 4 → StopsAtLast FeedStop.ReadFault result.feeds.items }
     ensures not_read_due { StopsAtLast FeedStop.ReadFault result.feeds.items → IsOrYields 4 result.status }

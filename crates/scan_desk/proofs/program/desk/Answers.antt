@@ -14,10 +14,8 @@ returns-clause-no_command g c = no_command (map (string_bytes {Z = Global}) c.ar
     c.run.result.feeds.items c.run.result.status (g.K.Sink.written c.args.sink.now) (g.K.Sink.written c.run.new.sink) (g.K.Sink.faults c.args.sink.now) (g.K.Sink.faults c.run.new.sink) c.run.ensures)
 
 pub returns-clause-no_command_due : goal.returns-clause-no_command_due
-returns-clause-no_command_due g c = no_command_due (map (string_bytes {Z = Global}) c.args.words.now) (g.O.Opener.faults c.args.opener.now) (g.O.Opener.faults c.run.new.opener)
-    c.run.result.feeds.items c.run.result.status (g.K.Sink.written c.args.sink.now) (g.K.Sink.written c.run.new.sink) (g.K.Sink.faults c.args.sink.now) (g.K.Sink.faults c.run.new.sink)
-    (answers g.O.S.Source.left g.O.S.Source.faults (g.O.Opener.told c.args.opener.now) (map (string_bytes {Z = Global}) c.args.words.now) (g.O.Opener.faults c.args.opener.now) (g.O.Opener.faults c.run.new.opener)
-    c.run.result.feeds.items c.run.result.status (g.K.Sink.written c.args.sink.now) (g.K.Sink.written c.run.new.sink) (g.K.Sink.faults c.args.sink.now) (g.K.Sink.faults c.run.new.sink) c.run.ensures)
+returns-clause-no_command_due g c = no_command_due g.O.S.Source.left g.O.S.Source.faults (g.O.Opener.told c.args.opener.now) (map (string_bytes {Z = Global}) c.args.words.now) (g.O.Opener.faults c.args.opener.now) (g.O.Opener.faults c.run.new.opener)
+    c.run.result.feeds.items c.run.result.status (g.K.Sink.written c.args.sink.now) (g.K.Sink.written c.run.new.sink) (g.K.Sink.faults c.args.sink.now) (g.K.Sink.faults c.run.new.sink) c.run.ensures
 
 pub returns-clause-not_opened : goal.returns-clause-not_opened
 returns-clause-not_opened g c = not_opened (map (string_bytes {Z = Global}) c.args.words.now) (g.O.Opener.faults c.args.opener.now) (g.O.Opener.faults c.run.new.opener)
