@@ -24,7 +24,7 @@ pub fn cut(text: &[u8], separator: u8) -> Option<(&[u8], &[u8])>
     }
 }
 
-/// The two parts of a text round the only one of these bytes. `None` where the byte stands there not once.
+/// The two parts of a text round the only one of these bytes. `None` where the byte is not there, or more than once.
 pub fn two_parts(text: &[u8], separator: u8) -> Option<(&[u8], &[u8])>
     ensures { MatchOption result
         (length (slice_split (λ byte. byte == separator) text.now) ≢ 2)

@@ -5,6 +5,7 @@ use crate::rule::VoidRule;
 use crate::selection::Selection;
 
 /// One book's offer on one match: up to `limit` minor units may be staked at `odds`.
+/// `feed` is 0 to 7, `limit` 1 to 100,000,000 minor units.
 #[derive(Clone, Copy, Debug, PartialEq, Eq, Hash)]
 pub struct Offer {
     pub feed: u8,
