@@ -1,5 +1,6 @@
 ghost use Rattle.std.specs.Prelude.{◌≡◌, ◌≤◌, IfSome, IsSome, IsTrue, ◌↔◌};
 
+use crate::limits::{MOST_FEEDS, MOST_LIMIT};
 use crate::odds::Odds;
 use crate::rule::VoidRule;
 use crate::selection::Selection;
@@ -34,7 +35,7 @@ impl Offer {
         ensures value { IfSome result (λ offer. HasTerms offer feed selection odds limit rule) }
         ensures in_range { IsSome result ↔ (IsFeedNumber feed × IsLimitRange limit) }
     {
-        if feed <= 7 && 1 <= limit && limit <= 100_000_000 {
+        if usize::from(feed) < MOST_FEEDS && 1 <= limit && limit <= MOST_LIMIT {
             Some(Offer {
                 feed,
                 selection,
