@@ -1,10 +1,10 @@
 -- Inverses of odd numbers modulo 2^128 by Newton's method, and exact division by them.
-use Rattle.std.proofs.Common.{◌≡◌, ℕ, zero, suc, ◌+◌, ◌-◌, ◌*◌, ◌/◌, ◌%◌, ◌^◌, ◌<◌, ℤ, pos, negsuc, ◌+ℤ◌, ◌-ℤ◌, ◌*ℤ◌, neg_ℤ, unsigned_abs, refl, sym, ap, ap₂, ◌∙◌, arith, lt_of_le_of_lt}
+use Rattle.std.proofs.Common.{subst, ◌≡◌, ℕ, zero, suc, ◌+◌, ◌-◌, ◌*◌, ◌/◌, ◌%◌, ◌^◌, ◌<◌, ℤ, pos, negsuc, ◌+ℤ◌, ◌-ℤ◌, ◌*ℤ◌, neg_ℤ, unsigned_abs, refl, sym, ap, ap₂, ◌∙◌, arith, lt_of_le_of_lt}
 use Rattle.std.specs.Int.{◌∣◌, w128, cast_signed, int_wrap}
-use Rattle.std.proofs.lemmas.Int.{ints, int_wrap_fits, int_wrap-mul_left, int_wrap-mul_right, int_wrap-sub_right, wrapping_mul-bits, wrapping_sub-bits, fits_signed_from_abs}
+use Rattle.std.proofs.lemmas.Int.{ints, int_wrap_fits, int_wrap-mul_left, int_wrap-mul_right, int_wrap-sub_right, wrapping_mul-bits, wrapping_sub-bits, fits_signed_from_abs, unsigned_abs-mul}
 use Rattle.std.proofs.lemmas.Nat.{pow-add}
 use Rattle.std.proofs.Math.IntN.{*ℤ_comm, zero-*ℤ}
-use Rattle.std.proofs.Math.Nat.{mul-div_cancel_left, pow-suc, mod-lt}
+use Rattle.std.proofs.Math.Nat.{mul-div_cancel_left, pow-suc, mod-lt, dvd-mul_left}
 use lib.Arith.{digits_div}
 use lib.Count.{count_trailing_zeros, under}
 use lib.Pow.{pow_pos}
@@ -12,7 +12,7 @@ use lib.Signed.{shr_z}
 use Rattle.row_definitions.specs.Rows.{divided}
 use Rattle.row_definitions.specs.Combination.{FitsEntry}
 use Rattle.row_definitions.proofs.Numbers.{divided-exact, one-*ℤ, *ℤ-+ℤ, *ℤ--ℤ, *ℤ_assoc, *ℤ_swap, unsigned_abs-divided-le}
-use Rattle.fraction_rows.specs.Exact.{IsInverted}
+use Rattle.fraction_rows.specs.Exact.{HasInverse}
 
 -- ---- the odd part
 
@@ -93,7 +93,7 @@ all_bits k =
 
 -- ---- the quotient
 
-pub exact_quotient : (divisor twos : ℕ) (inverse x : ℤ) → IsInverted divisor twos inverse → divisor ∣ unsigned_abs x → FitsEntry x → int_wrap w128 (shr_z x (2 ^ twos) *ℤ inverse) ≡ divided divisor x
+pub exact_quotient : (divisor twos : ℕ) (inverse x : ℤ) → HasInverse divisor twos inverse → divisor ∣ unsigned_abs x → FitsEntry x → int_wrap w128 (shr_z x (2 ^ twos) *ℤ inverse) ≡ divided divisor x
 exact_quotient divisor twos inverse x inverted divides fits =
     let y = divided divisor x in
     let odd = pos inverted.odd in
@@ -103,3 +103,7 @@ exact_quotient divisor twos inverse x inverted divides fits =
     let y_fits = fits_signed_from_abs w128 y (lt_of_le_of_lt (unsigned_abs-divided-le divisor x) fits) in
     ap (λ z. int_wrap w128 (z *ℤ inverse)) shift ∙ ap (int_wrap w128) regrouped ∙ sym (int_wrap-mul_right w128 y (odd *ℤ inverse))
     ∙ ap (λ z. int_wrap w128 (y *ℤ z)) inverted.unit ∙ ap (int_wrap w128) (times-one y) ∙ int_wrap_fits w128 y y_fits
+
+-- a factor divides a product
+pub divides_product : (d q x : ℤ) → q *ℤ d ≡ x → unsigned_abs d ∣ unsigned_abs x
+divides_product d q x is = subst (λ n. unsigned_abs d ∣ n) (sym (unsigned_abs-mul q d) ∙ ap unsigned_abs is) (dvd-mul_left (unsigned_abs d) (unsigned_abs q))

@@ -2,7 +2,7 @@
 use Rattle.std.proofs.Common.{◌≡◌, ℕ, zero, suc, ◌+◌, ◌<◌, ◌≤◌, List, [], ◌∷◌, ◌++◌, length, take, ℤ, pos, unsigned_abs, subst, sym, ◌^◌, ◌⊎◌, inl, inr, All, ◌<ℤ◌, eq-zero-or-pos, lt_of_le_of_lt, lit<}
 use Rattle.std.specs.Int.{◌∣◌, IsGcd}
 use Rattle.std.proofs.lemmas.Nat.Gcd.{dvd_trans, dvd_refl, le_of_dvd}
-use Rattle.std.proofs.lemmas.List.Elements.{All-nil, All-cons, All-head, All-tail}
+use Rattle.std.proofs.lemmas.List.Elements.{All-take, All-nil, All-cons, All-head, All-tail}
 use Rattle.std.proofs.lemmas.List.{take_more, take_all}
 use Rattle.std.proofs.Math.Nat.{one-dvd, eq-zero_of_zero-dvd}
 use Rattle.row_definitions.specs.Rows.{entry, row_divisor}
@@ -43,6 +43,10 @@ pub IsRowGcd-more : (row : List ℤ) (i : ℕ) (g h : ℕ) → i < length row �
 IsRowGcd-more row i g h below is step =
     subst (λ r. IsRowGcd r g) (sym (take_more row i (pos 0) below)) (IsRowGcd-push (take i row) (entry row i) g h is step)
 
+-- one more entry is read, which the divisor divides
+pub IsRowGcd-same : (row : List ℤ) (i d : ℕ) → i < length row → IsRowGcd (take i row) d → d ∣ unsigned_abs (entry row i) → IsRowGcd (take (i + 1) row) d
+IsRowGcd-same row i d below is divides = IsRowGcd-more row i d d below is (divides, dvd_refl d, λ k w h. h)
+
 -- the first entries have no common divisor but 1, so the row has none
 pub row_divisor-one : (row : List ℤ) (i g : ℕ) → IsRowGcd (take i row) g → g ≡ 1 → 1 ≡ row_divisor row
 row_divisor-one row i g is one =
@@ -79,6 +83,10 @@ row_divisor-lt row fits =
       | inl less ↦ less
       | inr zeros ↦ subst (λ n. n < 2 ^ 127) (sym (eq-zero_of_zero-dvd (is.1 0 zeros))) (lit< tt)
     ]
+
+-- and so does that of the first entries
+pub IsRowGcd-lt : (row : List ℤ) (i d : ℕ) → All FitsEntry row → IsRowGcd (take i row) d → d < 2 ^ 127
+IsRowGcd-lt row i d fits is = subst (λ n. n < 2 ^ 127) (sym (row_divisor_from (take i row) d is)) (row_divisor-lt (take i row) (All-take FitsEntry i row fits))
 
 pub FitsEntry-pair : (x y : ℤ) → FitsEntry x → FitsEntry y → All FitsEntry (x ∷ y ∷ [])
 FitsEntry-pair x y p q = All-cons FitsEntry x (y ∷ []) p (All-cons FitsEntry y [] q (All-nil FitsEntry))

@@ -19,7 +19,8 @@ pub struct Passed {
 /// primitive of `(pivot[at] / g) * target - (target[at] / g) * pivot`: the combination `pivot[at] * target - target[at] *
 /// pivot`, in which nothing is divided, is a positive multiple of it. Where a product or a difference passes 128 bits,
 /// the first such column is answered and the target stays as it was. The pivot's entry in the column is above 0, and no
-/// entry is the least `i128`.
+/// entry is the least `i128`. Both rows have one length, below 2^32, and `at` is one of their columns. Costs a scan of
+/// both rows for the test, one that writes, and `primitive`.
 pub fn combine(target: &mut [i128], pivot: &[i128], at: usize) -> Result<(), Passed>
     requires lengths { length target.old ≡ length pivot.now }
     requires columns { length target.old < 2 ^ 32 }

@@ -9,8 +9,8 @@ use crate::divisor::divisor_of;
 use crate::exact::ExactDivisor;
 
 /// Divides the row by the greatest common divisor of its entries. Each entry keeps its sign, and a row of zeros stays.
-/// No entry may be the least `i128`. Costs a step of Euclid's algorithm an entry until the divisor is 1, and otherwise a
-/// product an entry.
+/// No entry may be the least `i128`. Costs a step of Euclid's algorithm an entry until the divisor is 1 or has divided one
+/// more, and then a few products an entry.
 pub fn primitive(row: &mut [i128])
     requires { All FitsEntry row.old }
     ensures value { row.new ≡ primitive_row row.old }

@@ -1,8 +1,11 @@
 // The greatest common divisor of two numbers, and of a row.
 ghost use Rattle.std.specs.Prelude.{◌≡◌, ◌∷◌, [], pos, ◌<ℤ◌, unsigned_abs};
+ghost use Rattle.std.specs.List.{All};
 ghost use Rattle.std.specs.Int.{IsGcd};
 ghost use Rattle.row_definitions.specs.Rows.{row_divisor, divided};
 ghost use Rattle.row_definitions.specs.Combination.{FitsEntry};
+
+use crate::exact::ExactDivisor;
 
 // Euclid's algorithm, at half the width as soon as both numbers fit it.
 pub(crate) fn common_divisor(a: u128, b: u128) -> u128
@@ -34,16 +37,30 @@ fn narrow_divisor(a: u64, b: u64) -> u64
     x
 }
 
-// A divisor that has come down to 1 stays 1, so the rest of the row is not read.
+// A divisor that has come down to 1 stays 1, so the rest of the row is not read. One that has divided an entry more than
+// it was made of will mostly divide the others, which is seen without a division.
 pub(crate) fn divisor_of(row: &[i128]) -> u128
+    requires { All FitsEntry row.now }
     ensures { result ≡ row_divisor row.now }
 {
     let mut divisor = 0;
+    let mut exact: Option<ExactDivisor> = None;
     for x in row {
-        divisor = common_divisor(x.unsigned_abs(), divisor);
-        if divisor == 1 {
+        if let Some(tried) = exact
+            && tried.divides(*x)
+        {
+            continue;
+        }
+        let lower = common_divisor(x.unsigned_abs(), divisor);
+        if lower == 1 {
             return 1;
         }
+        exact = if lower == divisor && divisor > 0 {
+            Some(ExactDivisor::of(divisor))
+        } else {
+            None
+        };
+        divisor = lower;
     }
     divisor
 }

@@ -4,7 +4,8 @@
 //!
 //! - `Program`: coefficients and right sides; the objective is column 0.
 //! - `Tableau::build`: the first tableau, the one call that takes memory: a number a place of the tableau.
-//! - `Tableau::pivot`: one pivot, in a scan of each row that is not 0 in the column, and a second one that writes it.
+//! - `Tableau::pivot`: one pivot, in a few scans of each row that is not 0 in the column: one that tests, one that writes,
+//!   and those that divide.
 //! - `Tableau::basic`, `value`, `multiplier`: what a basic solution and its multipliers are read from.
 #![tactic(auto)]
 

@@ -11,9 +11,9 @@ use lib.Signed.{◌<ℤ◌, ◌≤ℤ◌}
 use borrow.Author.Differences.{same_out}
 use Rattle.row_definitions.specs.Rows.{entry}
 use Rattle.pivot_definitions.specs.Programs.{LinearProgram, IsProgram, IsCapped, coefficient}
-use Rattle.pivot_definitions.specs.Tableaus.{SimplexTableau, entry_at, basic_column, column_count, right_side, built, kept}
+use Rattle.pivot_definitions.specs.Tableaus.{SimplexTableau, entry_at, basic_column, column_count, right_side, IsValueOf, built, kept}
 use Rattle.pivot_definitions.specs.Runs.{RunsTo}
-use Rattle.pivot_definitions.specs.Duality.{sum_below, row_sum, IsSolutionTimes, BasicSolutionSatisfies}
+use Rattle.pivot_definitions.specs.Duality.{sum_below, row_sum, IsSolutionTimes, BasicSolutionExists, BasicSolutionSatisfies}
 use Rattle.pivot_definitions.proofs.Ring.{dif_is, difs, dif_same, linear, mul_not_negative, not_negative_from_product, same_from_product, at_most_from_product}
 use Rattle.pivot_definitions.proofs.Built.{built_slack, unit_here}
 use Rattle.pivot_definitions.proofs.Start.{row_built, unit_elsewhere, built_coefficient, built_right_side}
@@ -217,3 +217,29 @@ basic_solution_satisfies program tableau times point (is, capped, pivots, plain,
     let basic = basic_of program is capped pivots plain run in
     let there = subst (λ t. IsSolutionTimes program t times point) kept_is solution_times in
     record { not_negative = point_not_negative program plain times point basic there; satisfies = satisfied program is plain times point basic there }
+
+times_one : (x : ℤ) → x *ℤ pos 1 ≡ x
+times_one x = rw (dif_is x) (simp difs (dif_same _ _ _ _ (omega arith)))
+
+-- the product of the entries of all basic columns times the basic solution is whole
+solution_whole : (program : LinearProgram) (plain : SimplexTableau) → Basic program plain → (k : ℕ) (value : ℤ × ℤ) → IsValueOf (kept plain) k value → value.1 *ℤ solution program (kept plain) (pos 1) k ≡ K program (kept plain) *ℤ value.0
+unfolding solution pick
+solution_whole program plain basic k value is =
+    let t = kept plain in
+    by_row (λ o. MatchOption o (value ≡ (pos 0, pos 1)) (λ row. value ≡ (right_side t row, entry_at t row k)) → o ≡ row_of plain k → value.1 *ℤ pick (λ i. (pos 1 *ℤ right_side t i) *ℤ rest program t i) o ≡ K program t *ℤ value.0) (row_of plain k)
+    (λ e value_is same. times_zero value.1 ∙ sym (ap (λ (v : ℤ × ℤ). K program t *ℤ v.0) value_is ∙ times_zero (K program t)))
+    (λ row e value_is same.
+    let f = found plain k row e in
+    let inside : row < program.rows = omega (arith, f.0, basic.held.count) in
+    let part = (pos 1 *ℤ right_side t row) *ℤ rest program t row in
+    ap (λ (v : ℤ × ℤ). v.1 *ℤ part) value_is ∙ ap (λ j. entry_at t row j *ℤ part) (sym f.1)
+    ∙ move_out (own t row) (pos 1) (right_side t row) (rest program t row)
+    ∙ ap (λ x. (x *ℤ pos 1) *ℤ right_side t row) (cofactor_is program.rows row (own t) inside)
+    ∙ ap (λ x. x *ℤ right_side t row) (times_one (K program t)) ∙ sym (ap (λ (v : ℤ × ℤ). K program t *ℤ v.0) value_is))
+    is refl
+
+pub basic_solution_exists : BasicSolutionExists
+basic_solution_exists program tableau (is, capped, pivots, plain, run, kept_is) =
+    let basic = basic_of program is capped pivots plain run in
+    subst (λ t. (times : ℤ) × (point : ℕ → ℤ) × IsSolutionTimes program t times point) (sym kept_is)
+    (K program (kept plain), solution program (kept plain) (pos 1), record { positive = K_positive program plain basic; values = λ k h value is_value. solution_whole program plain basic k value is_value })

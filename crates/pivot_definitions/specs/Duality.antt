@@ -61,6 +61,10 @@ RowsCombine = (program : LinearProgram) (tableau : SimplexTableau) → IsReached
 abbrev pub BestMultipliersBound : Type 0
 BestMultipliersBound = (program : LinearProgram) (tableau : SimplexTableau) (scale : ℤ) → IsReached program tableau → CombinesToObjective program tableau scale → IsBest tableau → BoundsObjective program (multiplier_of tableau) scale
 
+-- some whole number above 0 times the basic solution of each tableau of a run is whole in each column
+abbrev pub BasicSolutionExists : Type 0
+BasicSolutionExists = (program : LinearProgram) (tableau : SimplexTableau) → IsReached program tableau → (times : ℤ) × (point : ℕ → ℤ) × IsSolutionTimes program tableau times point
+
 -- the basic solution of each tableau of a run is one of the program
 abbrev pub BasicSolutionSatisfies : Type 0
 BasicSolutionSatisfies = (program : LinearProgram) (tableau : SimplexTableau) (times : ℤ) (point : ℕ → ℤ) → IsReached program tableau → IsSolutionTimes program tableau times point → IsFeasibleTimes program times point

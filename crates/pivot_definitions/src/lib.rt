@@ -16,7 +16,7 @@
 
 ghost use Rattle.pivot_definitions.specs.Laws.{KeptPivot};
 ghost use Rattle.pivot_definitions.specs.Runs.{ChoiceIsOne, RunIsOne};
-ghost use Rattle.pivot_definitions.specs.Duality.{RowsCombine, BestMultipliersBound, BasicSolutionSatisfies, LevelIsBound, BoundHolds};
+ghost use Rattle.pivot_definitions.specs.Duality.{RowsCombine, BestMultipliersBound, BasicSolutionExists, BasicSolutionSatisfies, LevelIsBound, BoundHolds};
 
 /// The kept form of a plain pivot is the pivot of the kept form, so what stays within 128 bits by divisions keeps the
 /// signs and ratios of a tableau in which nothing is divided.
@@ -34,10 +34,12 @@ pub fn run_law()
 
 /// What a tableau of a run says of its program (linear programming duality). Its multipliers combine the rows into a
 /// positive multiple of the objective; where nothing is left to choose they are not negative, and so the right sides bound
-/// the objective at every solution. Its basic solution is a solution of the program, and column 0 of it is that bound.
+/// the objective at every solution. Its basic solution, taken so often that it is whole, is a solution of the program, and
+/// column 0 of it is that bound.
 pub fn duality_law()
     ensures rows_combine { RowsCombine }
     ensures best_multipliers_bound { BestMultipliersBound }
+    ensures basic_solution_exists { BasicSolutionExists }
     ensures basic_solution_satisfies { BasicSolutionSatisfies }
     ensures level_is_bound { LevelIsBound }
     ensures bound_holds { BoundHolds }

@@ -14,8 +14,8 @@ use Rattle.std.specs.List.{list_all}
 use Rattle.std.specs.Str.{bytes_eq}
 use Rattle.std.proofs.lemmas.Bool.Decides.{nat_tests}
 use Rattle.scan_desk.specs.Words.{named_feeds, is_feed_name}
-use Rattle.scan_desk.specs.Readings.{AreRead}
-use Rattle.scan_desk.specs.Desk.{Due, IsDueAfter, IsWritten, IsCourse, IsCourseOfRun}
+use Rattle.scan_desk.specs.Readings.{AreReadSo, AreRead}
+use Rattle.scan_desk.specs.Desk.{Due, IsDueAfter, IsWritten, IsCutRun, IsCourse, IsCourseOfRun}
 use Rattle.scan_desk.specs.Told.{told_bytes}
 use Rattle.scan_desk.specs.Texts.{cannot_be_opened}
 use Rattle.desk_io.specs.Faults.{Rose}
@@ -52,12 +52,23 @@ course_of_run left faults told count ends feeds stop status answer (Ok text) old
         read = read.read;
         stop = stop;
         stop_is = read.stop_is;
+        few = read.few;
         all = λ e. (read.whole e).0;
         due_is = due read.texts (λ e. parts_are read.texts feeds (read.whole e).1);
       },
       written,
     )
-course_of_run left faults told count ends feeds stop status answer (Err _) old new sink_before sink_after read due written = inr written
+course_of_run left faults told count ends feeds stop status answer (Err _) old new sink_before sink_after read due written =
+    inr (written.0, written.1, record { texts = read.texts; read = read.read; few = read.few; last = inr (stop, read.stop_is, λ e. (read.whole e).0) })
+
+-- no feed was begun
+pub none_begun : {S : Type 0} (left : S → Option (List ℕ)) (faults : S → ℕ) (told : ℕ → Option (List ℕ)) (count : ℕ) (ends : List (FeedEnd S)) → ends ≡ [] → IsCutRun left faults told count ends
+none_begun left faults told count ends e = record {
+  texts = [];
+  read = let P : List (FeedEnd _) → Type 0 = λ xs. AreReadSo left faults told [] 0 xs [] in subst P (sym e) tt;
+  few = let P : List (FeedEnd _) → Type 0 = λ xs. length xs ≤ count in subst P (sym e) (omega arith);
+  last = inl e;
+}
 
 -- what is left as it was keeps what was written
 pub written_kept : {K : Type 0} (text : Result (Vec ℕ Global) WantOfMemory) (status answer : ℕ) (written : K → Option (List ℕ)) (before after : K) (sink_before sink_after : ℕ)
@@ -75,11 +86,12 @@ pub course_unopened : {S : Type 0} (left : S → Option (List ℕ)) (faults : S 
 course_unopened left faults told words names opener_before opener_after feed ends answer (Ok text) old new sink_before sink_after named fault none line written =
     let mk : List ℕ → Due = λ t. record { status = 3; text = t } in
     inl (mk text.items, inr (names, named, inl (record { feed = feed; is_named = fault.0; fault = fault.1; none_begun = none; due_is = ap mk line })), written)
-course_unopened left faults told words names opener_before opener_after feed ends answer (Err _) old new sink_before sink_after named fault none line written = inr written
+course_unopened left faults told words names opener_before opener_after feed ends answer (Err _) old new sink_before sink_after named fault none line written =
+    inr (written.0, written.1, names, named, none_begun left faults (told_bytes told names) (length names) ends none)
 
 -- the course where the feeds were opened
 pub course_of_names : {S : Type 0} (left : S → Option (List ℕ)) (faults : S → ℕ) (told : List ℕ → Option (List (List ℕ))) (words names : List (List ℕ)) (opener_before opener_after : ℕ) (ends : List (FeedEnd S)) (answer : ℕ)
     (old new : Option (List ℕ)) (sink_before sink_after : ℕ) → named_feeds words ≡ Some names → IsCourseOfRun left faults (told_bytes told names) (length names) ends answer old new sink_before sink_after
     → IsCourse left faults told words opener_before opener_after ends answer old new sink_before sink_after
 course_of_names left faults told words names opener_before opener_after ends answer old new sink_before sink_after named (inl run) = inl (run.0, inr (names, named, inr run.1), run.2)
-course_of_names left faults told words names opener_before opener_after ends answer old new sink_before sink_after named (inr none) = inr none
+course_of_names left faults told words names opener_before opener_after ends answer old new sink_before sink_after named (inr cut) = inr (cut.0, cut.1, names, named, cut.2)

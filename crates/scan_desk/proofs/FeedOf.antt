@@ -1,5 +1,5 @@
 -- What the reading of one feed gives, from what its reader answered.
-use Rattle.std.proofs.Common.{◌≡◌, ◌≢◌, ℕ, suc, zero, ◌+◌, ◌<◌, Bool, true, false, List, [], ◌∷◌, ◌++◌, length, take, map, Option, Some, None, refl, sym, ap, ◌∙◌, subst, arith, MatchOption, if◌then◌else◌, inl, All}
+use Rattle.std.proofs.Common.{◌≡◌, ◌≢◌, ℕ, suc, zero, ◌+◌, ◌<◌, Bool, true, false, List, [], ◌∷◌, ◌++◌, length, take, map, Option, Some, None, refl, sym, ap, ◌∙◌, subst, arith, MatchOption, if◌then◌else◌, inl, inr, ◌⊎◌, All}
 use Rattle.std.specs.Io.KnownBytes.{Consumes}
 use Rattle.std.proofs.KnownBytes.{Consumes-trans}
 use Rattle.desk_io.specs.Faults.{Rose}
@@ -13,11 +13,12 @@ use Rattle.feed_lines.specs.Reader.{ReaderView}
 use Rattle.scan_desk.specs.declared.feed_end.FeedStop.{FeedStop}
 use Rattle.scan_desk.specs.declared.feed_end.FeedStop.TheVariants as stops
 use Rattle.scan_desk.specs.Opening.{IsOpened}
-use Rattle.scan_desk.specs.Feeds.{is_among, StopsSo, part_of}
+use Rattle.scan_desk.specs.Feeds.{is_among, IsNotPlain, IsSecondOfBook, Answers, StopsSo, part_of}
+use Rattle.scan_desk.proofs.CutOff.{accepted_are_lines, lines_joined, cut_off}
 use Rattle.std.proofs.lemmas.List.{length-map}
 use Rattle.report_definitions.specs.declared.read_feed.ReadFeed.{ReadFeed}
 use Rattle.report_definitions.specs.Standing.{feed_part}
-use Rattle.scan_desk.specs.Reading.{IsWholeFeed, IsFeedOf, answered, GoesOn, StopsAfter, IsHeaderOf}
+use Rattle.scan_desk.specs.Reading.{IsWholeFeed, IsFeedOf, answered, GoesOn, StopsAfter, StopsAtHeader, IsHeaderOf, IsHeaderAgain}
 
 -- the first item shows in any front that is not empty
 book_in_front : (n : ℕ) (given : List FeedStep) (first : FeedStep) → take n given ≡ first ∷ [] → book_in given ≡ book_of_step first
@@ -45,6 +46,11 @@ counted : (lines answers before : ℕ) (over : Bool) → lines + (if over then 1
 counted lines answers before true e o h = omega arith
 counted lines answers before false e o h = absurd (cc)
 
+-- the lines that are counted while no ending was answered
+counted_on : (lines answers : ℕ) (over : Bool) → lines + (if over then 1 else 0) ≡ answers → over ≡ false → lines ≡ answers
+counted_on lines answers true e o = absurd (cc)
+counted_on lines answers false e o = omega arith
+
 rose_above : (old new : ℕ) → Rose old new → 0 < new
 rose_above old new h = omega (arith, h)
 
@@ -65,7 +71,12 @@ stops_so left faults books old new feed lines header accepted stops.ReadFault vo
   failed = h.0;
   fault = rose_above (faults old.source) (faults new.source) h.1;
 }
-stops_so left faults books old new feed lines header accepted stops.NoMemory voids fresh count h = tt
+stops_so left faults books old new feed lines header accepted stops.NoMemory voids fresh count h =
+    let before = answered header.book accepted in
+    let after = map (λ (a : Accepted). Accepts a.line (line_text a)) h.0 in
+    cut_off books new (record { feed = feed; header = Some header; lines = lines; stop = stops.NoMemory; source = new.source }) (before ++ after) h.1
+    (tt, lines_joined (map (λ (a : Accepted). Accepts a.line (line_text a)) accepted) after (accepted_are_lines accepted) (accepted_are_lines h.0))
+    (record { book = refl; voids = voids; fresh = fresh; count = counted_on lines new.answers new.over count h.1.goes_on ∙ h.1.count })
 stops_so left faults books old new feed lines header accepted stops.NotBuilt voids fresh count h =
     let before = answered header.book accepted in
     let e : lines ≡ length before = counted lines new.answers (length before) new.over count h.3 h.2 in
@@ -126,4 +137,45 @@ feed_of {S} left faults told source books number first old new plain stop whole 
         stop_is = stops_so left faults books old new number plain.lines plain.header plain.accepted.items stop header.voids header.fresh count after;
       };
       whole_is = whole_or_not left faults old new plain stop whole header.voids count lines after w;
+    }
+
+-- nothing was answered of a feed without a header
+no_answers : (books : List (List ℕ)) → Answers books None 0 []
+no_answers books = record { book = refl; voids = tt; fresh = tt; count = refl }
+
+book_again : {S : Type 0} (left : S → Option (List ℕ)) (faults : S → ℕ) (books : List (List ℕ)) (old new : ReaderView S) (feed : ℕ) → StopsAfter left faults [] stops.NotBuilt old new ⊎ IsHeaderAgain books new
+    → IsNotPlain books left (record { feed = feed; header = None; lines = 0; stop = stops.NotBuilt; source = new.source }) new.taken ⊎ IsSecondOfBook books (record { feed = feed; header = None; lines = 0; stop = stops.NotBuilt; source = new.source }) new.taken
+book_again left faults books old new feed (inl h) = inl (record { answered = []; answers = no_answers books; ended = h.0; whole = h.1 })
+book_again left faults books old new feed (inr h) = inr (record { book = h.book; named = book_in_front new.answers (steps false new.taken) (Book h.book) h.answers.first; earlier = h.again; no_line = refl; no_header = refl })
+
+-- how a feed without a header stopped
+stops_before : {S : Type 0} (left : S → Option (List ℕ)) (faults : S → ℕ) (books : List (List ℕ)) (old new : ReaderView S) (feed : ℕ) (stop : FeedStop) → StopsAtHeader left faults books stop old new
+    → StopsSo left faults books stop (record { feed = feed; header = None; lines = 0; stop = stop; source = new.source }) new.taken
+stops_before left faults books old new feed stops.End h = absurd h
+stops_before left faults books old new feed stops.ReadFault h = record { answered = []; answers = no_answers books; failed = h.0; fault = rose_above (faults old.source) (faults new.source) h.1 }
+stops_before left faults books old new feed stops.NotBuilt h = book_again left faults books old new feed h
+stops_before left faults books old new feed stops.NoMemory h = cut_off books new (record { feed = feed; header = None; lines = 0; stop = stops.NoMemory; source = new.source }) [] h tt (no_answers books)
+
+not_at_end : {S : Type 0} (left : S → Option (List ℕ)) (faults : S → ℕ) (books : List (List ℕ)) (old new : ReaderView S) (stop : FeedStop) → StopsAtHeader left faults books stop old new → stop ≢ stops.End
+not_at_end left faults books old new stops.End h = absurd h
+not_at_end left faults books old new stops.ReadFault h = λ e. cc
+not_at_end left faults books old new stops.NotBuilt h = λ e. cc
+not_at_end left faults books old new stops.NoMemory h = λ e. cc
+
+-- a feed that stopped without a header
+pub feed_before_header : {S : Type 0} (left : S → Option (List ℕ)) (faults : S → ℕ) (told : Option (List ℕ)) (source : S) (books : List (List ℕ)) (number : ℕ) (first new : ReaderView S) (stop : FeedStop)
+    → IsOpened left faults told source → first.source ≡ source → first.taken ≡ [] → GoesOn left faults first new → StopsAtHeader left faults books stop first new
+    → IsFeedOf left faults told books number (record { feed = number; header = None; lines = 0; stop = stop; source = new.source }) None
+feed_before_header {S} left faults told source books number first new stop opened from_source none_taken gone h =
+    let taken : new.taken ≡ gone.more = gone.appended ∙ ap (λ xs. xs ++ gone.more) none_taken in
+    let Q : S → List ℕ → Type 0 = λ s xs. Consumes (left s) (left new.source) xs in
+    let R : S → Type 0 = λ s. Q s new.taken in
+    record {
+      text = new.taken;
+      read = record {
+        number_is = refl;
+        given = given_since left faults told source new.source new.taken opened (subst R from_source (subst (Q first.source) (sym taken) gone.given));
+        stop_is = stops_before left faults books first new number stop h;
+      };
+      whole_is = not_at_end left faults books first new stop h;
     }

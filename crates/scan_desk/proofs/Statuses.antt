@@ -50,7 +50,7 @@ pub record IsAnswer {S : Type 0} (words : List (List ℕ)) (opener_before opener
 
 pub answers : {S : Type 0} (left : S → Option (List ℕ)) (faults : S → ℕ) (told : List ℕ → Option (List (List ℕ))) (words : List (List ℕ)) (opener_before opener_after : ℕ) (ends : List (FeedEnd S)) (status : ℕ) (old new : Option (List ℕ)) (sink_before sink_after : ℕ)
     → IsCourse left faults told words opener_before opener_after ends status old new sink_before sink_after → IsAnswer words opener_before opener_after ends status old new sink_before sink_after
-answers left faults told words opener_before opener_after ends status old new sink_before sink_after (inr none) = record { so = inl none }
+answers left faults told words opener_before opener_after ends status old new sink_before sink_after (inr cut) = record { so = inl (cut.0, cut.1) }
 answers left faults told words opener_before opener_after ends status old new sink_before sink_after (inl course) =
     let says = due_says left faults told words opener_before opener_after ends course.0 course.1 in
     record { so = inr (course.0, says, elim course.2 [ inl written ↦ inl written.0 | inr broken ↦ inr (broken.0, broken.2) ]) }
@@ -137,7 +137,7 @@ no_memory words opener_before opener_after ends status old new sink_before sink_
 -- a run whose status is 0
 pub done : {S : Type 0} (left : S → Option (List ℕ)) (faults : S → ℕ) (told : List ℕ → Option (List (List ℕ))) (words : List (List ℕ)) (opener_before opener_after : ℕ) (ends : List (FeedEnd S)) (status : ℕ) (old new : Option (List ℕ)) (sink_before sink_after : ℕ)
     → IsCourse left faults told words opener_before opener_after ends status old new sink_before sink_after → status ≡ 0 → IsReported left faults told words ends old new
-done left faults told words opener_before opener_after ends status old new sink_before sink_after (inr none) e = absurd (omega (arith, none.0))
+done left faults told words opener_before opener_after ends status old new sink_before sink_after (inr cut) e = absurd (omega (arith, cut.0))
 done left faults told words opener_before opener_after ends status old new sink_before sink_after (inl (due, is_due, inr broken)) e = absurd (omega (arith, broken.0))
 done left faults told words opener_before opener_after ends status old new sink_before sink_after (inl (due, inl none, inl written)) e = absurd (omega (arith, written.0, ap (λ d. d.status) none.due_is))
 done left faults told words opener_before opener_after ends status old new sink_before sink_after (inl (due, inr (names, named, inl unopened), inl written)) e = absurd (omega (arith, written.0, ap (λ d. d.status) unopened.due_is))

@@ -1,5 +1,5 @@
 -- What a run of the desk does.
-use Rattle.std.specs.Prelude.{ℕ, ◌≡◌, ◌<◌, ◌+◌, ◌-◌, ◌⊎◌, List, [], length, map, Option, None, Some, All, IsSomeAnd, slice_get}
+use Rattle.std.specs.Prelude.{ℕ, ◌≡◌, ◌<◌, ◌≤◌, ◌+◌, ◌-◌, ◌⊎◌, List, [], length, map, Option, None, Some, All, IsSomeAnd, slice_get}
 use Rattle.std.specs.Io.KnownBytes.{Appends, Keeps}
 use Rattle.desk_io.specs.Faults.{Rose}
 use Rattle.desk_io.specs.Sink.{AppendsPrefix}
@@ -62,6 +62,7 @@ pub record IsRun {S : Type 0} (left : S → Option (List ℕ)) (faults : S → �
   pub read : AreReadSo left faults told [] 0 ends texts
   pub stop : FeedStop
   pub stop_is : StopsAtLast stop ends
+  pub few : length ends ≤ count
   pub all : stop ≡ stops.End → length ends ≡ count
   pub due_is : IsDueAfter stop ends texts due
 
@@ -76,16 +77,24 @@ abbrev pub IsWritten : Due → ℕ → Option (List ℕ) → Option (List ℕ) �
 IsWritten due status old new faults_before faults_after =
     ((status ≡ due.status) × Appends old new due.text) ⊎ ((status ≡ 5) × AppendsPrefix old new due.text × Rose faults_before faults_after)
 
--- what a run does: what is due is written; or memory was wanting, the status is 7, and nothing is written
+-- memory was wanting: so many feeds were to be read, and those of them that were begun were read so; where the last of these stopped at
+-- its end, all were
+pub record IsCutRun {S : Type 0} (left : S → Option (List ℕ)) (faults : S → ℕ) (told : ℕ → Option (List ℕ)) (count : ℕ) (ends : List (FeedEnd S)) : Type 0 where
+  pub texts : List (List ℕ)
+  pub read : AreReadSo left faults told [] 0 ends texts
+  pub few : length ends ≤ count
+  pub last : (ends ≡ []) ⊎ ((stop : FeedStop) × StopsAtLast stop ends × (stop ≡ stops.End → length ends ≡ count))
+
+-- what a run does: what is due is written; or the words name feeds, memory was wanting, the status is 7, and nothing is written
 abbrev pub IsCourse : {S : Type 0} → (S → Option (List ℕ)) → (S → ℕ) → (List ℕ → Option (List (List ℕ))) → List (List ℕ) → ℕ → ℕ → List (FeedEnd S) → ℕ → Option (List ℕ) → Option (List ℕ) → ℕ → ℕ → Type 0
 IsCourse left faults told words opener_before opener_after ends status old new sink_before sink_after =
     ((due : Due) × IsDue left faults told words opener_before opener_after ends due × IsWritten due status old new sink_before sink_after)
-    ⊎ ((status ≡ 7) × Keeps old new)
+    ⊎ ((status ≡ 7) × Keeps old new × (names : List (List ℕ)) × (named_feeds words ≡ Some names) × IsCutRun left faults (told_bytes told names) (length names) ends)
 
 -- the same after the feeds were opened
 abbrev pub IsCourseOfRun : {S : Type 0} → (S → Option (List ℕ)) → (S → ℕ) → (ℕ → Option (List ℕ)) → ℕ → List (FeedEnd S) → ℕ → Option (List ℕ) → Option (List ℕ) → ℕ → ℕ → Type 0
 IsCourseOfRun left faults told count ends status old new sink_before sink_after =
-    ((due : Due) × IsRun left faults told count ends due × IsWritten due status old new sink_before sink_after) ⊎ ((status ≡ 7) × Keeps old new)
+    ((due : Due) × IsRun left faults told count ends due × IsWritten due status old new sink_before sink_after) ⊎ ((status ≡ 7) × Keeps old new × IsCutRun left faults told count ends)
 
 -- every named feed was read to its end, and the sink got the report of what was read
 pub record IsReported {S : Type 0} (left : S → Option (List ℕ)) (faults : S → ℕ) (told : List ℕ → Option (List (List ℕ))) (words : List (List ℕ)) (ends : List (FeedEnd S)) (old new : Option (List ℕ)) : Type 0 where
@@ -102,3 +111,13 @@ pub record IsReported {S : Type 0} (left : S → Option (List ℕ)) (faults : S 
 -- the status is this one, or gives way to a failed write or to want of memory
 abbrev pub IsOrYields : ℕ → ℕ → Type 0
 IsOrYields due status = (status ≡ due) ⊎ ((status ≡ 5) ⊎ (status ≡ 7))
+
+-- no fault was counted: the count did not rise, and is not at its type's end, where it stands still
+abbrev pub HasNotRisen : ℕ → ℕ → Type 0
+HasNotRisen old new = Rose old new → ⊥
+
+-- no opening failed, no read of the feeds that were begun and no write
+pub record HasNoFault {S : Type 0} (faults : S → ℕ) (opener_before opener_after : ℕ) (ends : List (FeedEnd S)) (sink_before sink_after : ℕ) : Type 0 where
+  pub opener : HasNotRisen opener_before opener_after
+  pub sources : All (λ end. faults end.source ≡ 0) ends
+  pub sink : HasNotRisen sink_before sink_after

@@ -52,12 +52,20 @@ pub record IsSecondOfBook {S : Type 0} (books : List (List ℕ)) (end : FeedEnd 
   pub no_line : end.lines ≡ 0
   pub no_header : end.header ≡ None
 
--- what the stop of a feed says of its text, after feeds of these books; want of memory says nothing
+-- there was no memory to go on after these lines, which begin what the feed brings
+pub record IsCutOff {S : Type 0} (books : List (List ℕ)) (end : FeedEnd S) (text : List ℕ) : Type 0 where
+  pub answered : List FeedStep
+  pub answers : Answers books end.header end.lines answered
+  pub next : FeedStep
+  pub rest : List FeedStep
+  pub so_far : steps true text ≡ answered ++ next ∷ rest
+
+-- what the stop of a feed says of its text, after feeds of these books
 abbrev pub StopsSo : {S : Type 0} → (S → Option (List ℕ)) → (S → ℕ) → List (List ℕ) → FeedStop → FeedEnd S → List ℕ → Type 0
 StopsSo left faults books stops.End end text = IsWhole books left end text
 StopsSo left faults books stops.ReadFault end text = IsBroken books faults end text
 StopsSo left faults books stops.NotBuilt end text = IsNotPlain books left end text ⊎ IsSecondOfBook books end text
-StopsSo left faults books stops.NoMemory end text = Unit {0}
+StopsSo left faults books stops.NoMemory end text = IsCutOff books end text
 
 -- the feed of this number was read so far: these bytes of what its source had, with this end
 pub record IsReadSo {S : Type 0} (left : S → Option (List ℕ)) (faults : S → ℕ) (told : Option (List ℕ)) (books : List (List ℕ)) (number : ℕ) (end : FeedEnd S) (text : List ℕ) : Type 0 where

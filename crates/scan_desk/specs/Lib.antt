@@ -6,3 +6,4 @@ pub mod Feeds
 pub mod Reading
 pub mod Readings
 pub mod Desk
+pub mod PlainFeeds

@@ -33,13 +33,13 @@ pub record GoesOn {S : Type 0} (left : S → Option (List ℕ)) (faults : S → 
   pub faults_kept : faults old.source ≤ faults new.source
   pub feed : new.feed ≡ old.feed
 
--- how a feed stopped after these steps, seen at its reader
+-- how a feed stopped after these steps, seen at its reader; for lines behind them that were answered there may have been no memory
 abbrev pub StopsAfter : {S : Type 0} → (S → Option (List ℕ)) → (S → ℕ) → List FeedStep → FeedStop → ReaderView S → ReaderView S → Type 0
 StopsAfter left faults before stops.End old new = (steps false new.taken ≡ before ++ Ended ∷ []) × IsAtEnd (left new.source) × (new.answers ≡ length before + 1) × (new.over ≡ true)
 StopsAfter left faults before stops.ReadFault old new = (steps true new.taken ≡ before ++ Failed ∷ []) × Rose (faults old.source) (faults new.source) × (new.answers ≡ length before + 1) × (new.over ≡ true)
 StopsAfter left faults before stops.NotBuilt old new = (steps false new.taken ≡ before ++ NotPlain (length before + 1) ∷ [])
     × ((more : List ℕ) → left new.source ≡ Some more → steps false (new.taken ++ more) ≡ steps false new.taken) × (new.answers ≡ length before + 1) × (new.over ≡ true)
-StopsAfter left faults before stops.NoMemory old new = Unit {0}
+StopsAfter left faults before stops.NoMemory old new = (more : List Accepted) × HasAnswered new (before ++ map (λ a. Accepts a.line (line_text a)) more)
 
 -- the books of these feeds
 abbrev pub books_of : List ReadFeed → List (List ℕ)
@@ -62,7 +62,7 @@ abbrev pub StopsAtHeader : {S : Type 0} → (S → Option (List ℕ)) → (S →
 StopsAtHeader left faults books stops.End old new = ⊥
 StopsAtHeader left faults books stops.ReadFault old new = StopsAfter left faults [] stops.ReadFault old new
 StopsAtHeader left faults books stops.NotBuilt old new = StopsAfter left faults [] stops.NotBuilt old new ⊎ IsHeaderAgain books new
-StopsAtHeader left faults books stops.NoMemory old new = Unit {0}
+StopsAtHeader left faults books stops.NoMemory old new = HasAnswered new []
 
 -- a feed that was read whole: its part of the report, and that its lines are quotes on results of a book that voids
 pub record IsWholeFeed (text : List ℕ) (feed : ReadFeed) : Type 0 where

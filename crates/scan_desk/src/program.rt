@@ -1,13 +1,14 @@
 //! The top call: everything that the program does.
 
-ghost use Rattle.std.specs.Prelude.{ℕ, ◌≡◌, ◌<◌, ◌≤◌, List, Option, map, string_bytes};
+ghost use Rattle.std.specs.Prelude.{ℕ, ◌≡◌, ◌<◌, ◌≤◌, ◌⊎◌, List, Option, map, string_bytes};
 ghost use Rattle.std.specs.VecDeque.{deque_len};
 ghost use Rattle.scan_desk.specs.Opening.{AreOpened};
 ghost use Rattle.std.specs.Io.KnownBytes.{Keeps};
 ghost use Rattle.desk_io.specs.Faults.{Rose};
 ghost use Rattle.scan_desk.specs.Words.{named_feeds};
+ghost use Rattle.scan_desk.specs.PlainFeeds.{NamePlainFeeds};
 ghost use Rattle.scan_desk.specs.Readings.{StopsAtLast};
-ghost use Rattle.scan_desk.specs.Desk.{IsCourse, IsCourseOfRun, IsReported, IsOrYields};
+ghost use Rattle.scan_desk.specs.Desk.{IsCourse, IsCourseOfRun, IsReported, IsOrYields, HasNoFault};
 
 use crate::ending::due;
 use crate::feed_end::{FeedEnd, FeedStop};
@@ -106,6 +107,10 @@ pub fn desk<O: Opener, K: Sink>(
     // Status 0 comes only where each named feed was read to its end; the sink then got the report of what the sources gave.
     ensures done { result.status ≡ 0 →
         IsReported O.S.left O.S.faults (O.told opener.old) (map string_bytes words.now) result.feeds.items (K.written sink.old) (K.written sink.new) }
+
+    // The converse: plain feeds of distinct books have status 0, unless an opening, a read or a write fails or memory is wanting.
+    ensures complete { NamePlainFeeds (O.told opener.old) (map string_bytes words.now) →
+        HasNoFault O.S.faults (O.faults opener.old) (O.faults opener.new) result.feeds.items (K.faults sink.old) (K.faults sink.new) → (result.status ≡ 0) ⊎ (result.status ≡ 7) }
 
     // Each other status has its cause; a cause has its status, unless a write fails or memory is wanting.
     ensures no_command { result.status ≡ 2 → named_feeds (map string_bytes words.now) ≡ None }

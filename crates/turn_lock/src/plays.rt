@@ -15,7 +15,7 @@ impl<S: Kept> Play<Option<S>, View<S::Entry, S::Fixed>> for Draw {
     ghost then = { drew };
 }
 
-/// Looks which ticket is served, and takes the state where it is the pass's own.
+/// Looks which ticket is served. Where it is the pass's own, the pass has the turn, and the slot is out with it.
 pub struct Look;
 
 impl<S: Kept> Play<Option<S>, View<S::Entry, S::Fixed>> for Look {

@@ -27,7 +27,7 @@ loop-x-preserved c =
     let y_fits : SFits w128 c.quotient.result = search rules in
     let x_is = next d old c.loop-x.row i c.loop-x.invariant c.loop-x-test.true x_fits in
     let divides = subst (λ z. d ∣ unsigned_abs z) (sym x_is) (c.requires.divides i (pos 0) c.loop-x-test.true) in
-    let y_is = to_z-of_z y_fits ∙ c.quotient.ensures d c.of-divisor.ensures divides ∙ ap (divided d) x_is ∙ sym (entry-divided d old i) in
+    let y_is = to_z-of_z y_fits ∙ c.quotient.ensures d c.of-divisor.ensures.inverse divides ∙ ap (divided d) x_is ∙ sym (entry-divided d old i) in
     ap (λ row. set row i (to_z w128 (of_z w128 c.quotient.result))) c.loop-x.invariant
     ∙ set-written new old i _ (length-map old (divided d)) c.loop-x-test.true y_is
 

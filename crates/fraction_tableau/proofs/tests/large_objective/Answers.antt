@@ -1,10 +1,10 @@
-use Rattle.std.proofs.Common.{◌≡◌, ◌<◌, ◌^◌, ◌∷◌, [], ◌++◌, arith, refl, sym, ◌∙◌, subst, ap, ap₂, List, ℤ, ℕ, pos, unsigned_abs, length}
+use Rattle.std.proofs.Common.{◌≡◌, ◌<◌, ◌∷◌, [], ◌++◌, arith, refl, sym, ◌∙◌, subst, ap, ap₂, List, ℤ, ℕ, pos, length}
 use Rattle.std.specs.List.{All}
 use Rattle.std.proofs.lemmas.List.Elements.{All-cons, All-nil}
 use Rattle.row_definitions.specs.Rows.{primitive_row}
 use Rattle.row_definitions.specs.Combination.{FitsEntry}
 use Rattle.row_definitions.proofs.Primitives.{primitive_row-unit}
-use Rattle.pivot_definitions.specs.Tableaus.{SimplexTableau, IsKeptTableau}
+use Rattle.pivot_definitions.specs.Tableaus.{IsKeptTableau}
 use Rattle.fraction_tableau.proofs.tests.large_objective.Goals as goal
 
 abbrev constraint : List ℤ
@@ -21,15 +21,15 @@ three_fit a b c a_fits b_fits c_fits = All-cons FitsEntry a (b ∷ c ∷ []) a_f
 
 facts : IsKeptTableau (record { columns = 1; rows = constraint ∷ objective ∷ []; basis = 1 ∷ [] })
 facts = record {
-    few_columns = omega arith;
-    few_rows = omega arith;
-    shape = record {
-        row_count = refl;
-        widths = both (λ row. length row ≡ 3) refl refl;
-        basic_columns = All-cons (λ column. column < 2) 1 [] (omega arith) (All-nil (λ column. column < 2));
-    };
-    fits = both (λ row. All FitsEntry row) (three_fit (pos 3) (pos 1) (pos 0) (omega arith) (omega arith) (omega arith)) (three_fit (pos 1) (pos 0x40000000000000000000000000000000) (pos 0) (omega arith) (omega arith) (omega arith));
-    primitive = both (λ row. primitive_row row ≡ row) (primitive_row-unit constraint 1 refl) (primitive_row-unit objective 0 refl);
+  few_columns = omega arith;
+  few_rows = omega arith;
+  shape = record {
+    row_count = refl;
+    widths = both (λ row. length row ≡ 3) refl refl;
+    basic_columns = All-cons (λ column. column < 2) 1 [] (omega arith) (All-nil (λ column. column < 2));
+  };
+  fits = both (λ row. All FitsEntry row) (three_fit (pos 3) (pos 1) (pos 0) (omega arith) (omega arith) (omega arith)) (three_fit (pos 1) (pos 0x40000000000000000000000000000000) (pos 0) (omega arith) (omega arith) (omega arith));
+  primitive = both (λ row. primitive_row row ≡ row) (primitive_row-unit constraint 1 refl) (primitive_row-unit objective 0 refl);
 }
 
 pub invariant_of-result : goal.invariant_of-result

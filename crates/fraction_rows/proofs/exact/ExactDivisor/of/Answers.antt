@@ -1,7 +1,7 @@
-use Rattle.std.proofs.Common.{◌≡◌, ℕ, ◌*◌, ◌+◌, ◌/◌, ◌^◌, ◌<◌, pos, ◌*ℤ◌, ap, sym, ◌∙◌, arith, SFits, to_z, to_z-of_z, rules, div-le_self, lt_of_le_of_lt}
+use Rattle.std.proofs.Common.{subst, ◌≡◌, ℕ, ◌*◌, ◌+◌, ◌-◌, ◌/◌, ◌^◌, ◌<◌, pos, ◌*ℤ◌, ap, sym, ◌∙◌, arith, SFits, unsigned_abs, to_z, to_z-of_z, rules, div-le_self, lt_of_le_of_lt}
 use Rattle.std.specs.Int.{w128, int_wrap}
 use Rattle.std.proofs.lemmas.Int.{to_z_pos}
-use Rattle.std.proofs.Math.Nat.{mul-div_cancel_left}
+use Rattle.std.proofs.Math.Nat.{mul-div_cancel_left, div-mul-le_self}
 use lib.Count.{count_trailing_zeros}
 use lib.Pow.{pow_pos}
 use Rattle.fraction_rows.proofs.Inverses.{odd_part}
@@ -32,9 +32,17 @@ inverse_of-requires c =
     let n = c.args.divisor in
     (pos (part n c.requires.positive c.requires.fits).0, signed n c.requires.positive c.requires.fits ∙ ap pos (odd_is n c.requires.positive c.requires.fits))
 
-pub returns : goal.returns
+pub returns-clause-divisor : goal.returns-clause-divisor
+returns-clause-divisor c = ap unsigned_abs (to_z_pos w128 c.args.divisor c.requires.fits)
+
+pub invariant_of-result-clause-fits : goal.invariant_of-result-clause-fits
+invariant_of-result-clause-fits c =
+    let n = c.args.divisor in
+    subst (λ m. (2 ^ 127 - 1) / n * m < 2 ^ 127) (sym (ap unsigned_abs (to_z_pos w128 n c.requires.fits))) (omega (arith, div-mul-le_self (2 ^ 127 - 1) n))
+
+pub returns-clause-inverse : goal.returns-clause-inverse
 unfolding power
-returns c =
+returns-clause-inverse c =
     let n = c.args.divisor in
     let inverse_fits : SFits w128 c.inverse_of.result = search rules in
     record {
