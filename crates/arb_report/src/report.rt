@@ -8,7 +8,7 @@ use report_definitions::{MatchPart, ReadFeed};
 use scan_types::WantOfMemory;
 use std::alloc::Global;
 
-/// The report of these feeds, none of which has a refused line, and of these matches, where each run of a program has so many pivots.
+/// The report of these feeds, none of which has a refused line, of these matches, and of this budget of pivots.
 ///
 /// Takes time and memory in proportion to the text.
 pub fn report_text(

@@ -1,16 +1,17 @@
 -- Digits read one after another.
-use Rattle.std.proofs.Common.{◌≡◌, ℕ, suc, zero, ◌+◌, ◌*◌, ◌^◌, ◌-◌, ◌<◌, ◌≤◌, Bool, true, false, cond, leb, ◌&&◌, List, [], ◌∷◌, length, take, drop, get_or, Option, Some, None, option_map, option_and_then, IsSome, is_some, not, IfSome, ◌↔◌, ◌≢◌, refl, sym, ap, ◌∙◌, arith}
-use Rattle.std.proofs.lemmas.Bool.{leb-true, false≢true}
+use Rattle.std.proofs.Common.{◌≡◌, ℕ, suc, zero, ◌+◌, ◌*◌, ◌^◌, ◌-◌, ◌<◌, ◌≤◌, Bool, true, false, cond, leb, ◌&&◌, List, [], ◌∷◌, length, take, drop, get_or, Option, Some, None, option_map, option_and_then, IsSome, IfSome, ◌↔◌, ◌≢◌, refl, sym, ap, ◌∙◌, arith}
+use Rattle.std.proofs.lemmas.Bool.{leb-true, eqb-true, false≢true}
 use Rattle.std.proofs.lemmas.Bool.Decides.{nat_tests}
 use Rattle.std.proofs.lemmas.Int.Digits.{digits_value_more}
 use Rattle.std.proofs.lemmas.List.{length-take-le}
+use Rattle.std.proofs.lemmas.List.Sums.{passes_at_first}
 use Rattle.std.proofs.lemmas.List.Splits.{length-slice_split}
 use Rattle.std.proofs.lemmas.Str.{digit_value_digit}
 use Rattle.std.proofs.lemmas.Str.Parse.{IsNumeralModel, numerals_by_value, tells_all_ascii_digits, digits_value_short}
 use Rattle.std.specs.Char.{is_ascii_digit, digit_value}
-use Rattle.std.specs.List.{slice_split, position}
+use Rattle.std.specs.List.{slice_split, position, position_or_len}
 use Rattle.scan_types.specs.declared.odds.Odds.{Odds}
-use Rattle.feed_lines.proofs.Splits.{split_found}
+use Rattle.feed_lines.proofs.Splits.{Found, found, split_found, split_none}
 use Rattle.std.specs.Str.{all_ascii_digits}
 use Rattle.std.specs.Str.Parse.{digits_value}
 use Rattle.feed_definitions.specs.Numbers.{number_of, within, limit_of, odds_of, thousandths_of_parts, is_point}
@@ -109,31 +110,60 @@ thousandths_of_many (a ∷ []) h k = absurd (h refl)
 thousandths_of_many (a ∷ b ∷ []) h k = absurd (k refl)
 thousandths_of_many (a ∷ b ∷ c ∷ parts) h k = refl
 
-pub many_points : (text : List ℕ) (at : ℕ) → position is_point text ≡ Some at → length (slice_split is_point text) ≢ 2 → None ≡ thousandths_of_parts (slice_split is_point text)
-many_points text at found h = thousandths_of_many (slice_split is_point text)
-    (λ one. omega (arith, one, ap length (split_found is_point text at found), length-slice_split is_point (drop (at + 1) text))) h
-
--- and of odds with one point
+-- and of odds with a point
 regroup : (units : ℕ) (g : ℕ → ℕ) (o : Option ℕ) → option_map (λ q. 1000 * units + q) (option_map g o) ≡ option_and_then (λ p. Some (1000 * units + g p)) o
 regroup units g None = refl
 regroup units g (Some p) = refl
 
-module _ (text whole fraction : List ℕ) (two : slice_split is_point text ≡ whole ∷ fraction ∷ []) where
+none_after : (o : Option ℕ) → option_and_then {U = ℕ} (λ units. None) o ≡ None
+none_after None = refl
+none_after (Some units) = refl
+
+-- the thousandths of what stands before the first point and what follows it
+abbrev joined : ℕ → Option ℕ → Option ℕ → Option ℕ
+joined count o read = option_and_then (λ units. option_and_then (λ parts. Some (1000 * units + parts * 10 ^ (3 - count))) read) o
+
+-- what follows the first point is one part, or no number
+module _ (whole fraction : List ℕ) (at : ℕ) (is : position is_point fraction ≡ Some at) where
+  f : Found is_point fraction at
+  f = found is_point fraction at is
+
+  point : get_or fraction at 0 ≡ 46
+  point = ap (λ k. get_or fraction k 0) (sym f.is)
+      ∙ eqb-true (get_or fraction (position_or_len is_point fraction) 0) 46
+      (passes_at_first is_point fraction 0 (omega (arith, f.within, f.is)))
+
+  no_number : None ≡ number_of 3 fraction
+  no_number = number_not_digits 3 fraction (not_all_digits fraction at f.within (ap is_ascii_digit point))
+
+  further_point : thousandths_of_parts (whole ∷ slice_split is_point fraction) ≡ joined (length fraction) (number_of 4 whole) (number_of 3 fraction)
+  further_point =
+      sym (thousandths_of_many (whole ∷ slice_split is_point fraction)
+      (λ one. omega (arith, one, ap length (split_found is_point fraction at is), length-slice_split is_point (drop (at + 1) fraction)))
+      (λ two. omega (arith, two, ap length (split_found is_point fraction at is), length-slice_split is_point (drop (at + 1) fraction))))
+      ∙ sym (none_after (number_of 4 whole))
+      ∙ ap (joined (length fraction) (number_of 4 whole)) no_number
+
+fraction_parts : (whole fraction : List ℕ) → thousandths_of_parts (whole ∷ slice_split is_point fraction) ≡ joined (length fraction) (number_of 4 whole) (number_of 3 fraction)
+unfolding thousandths_of_parts
+fraction_parts whole fraction = elim (position is_point fraction) as (λ o. position is_point fraction ≡ o →
+    thousandths_of_parts (whole ∷ slice_split is_point fraction) ≡ joined (length fraction) (number_of 4 whole) (number_of 3 fraction)) [
+      | None ↦ λ is. ap (λ rest. thousandths_of_parts (whole ∷ rest)) (split_none is_point fraction is)
+      | Some at ↦ λ is. further_point whole fraction at is
+    ] refl
+
+module _ (text whole fraction : List ℕ) (cut : slice_split is_point text ≡ whole ∷ slice_split is_point fraction) where
   pub units_none : None ≡ number_of 4 whole → None ≡ thousandths_of_parts (slice_split is_point text)
-  unfolding thousandths_of_parts
-  units_none h =
-      ap (option_and_then (λ units. option_and_then (λ parts. Some (1000 * units + parts * 10 ^ (3 - length fraction))) (number_of 3 fraction))) h
-      ∙ sym (ap thousandths_of_parts two)
+  units_none h = ap (λ o. joined (length fraction) o (number_of 3 fraction)) h ∙ sym (ap thousandths_of_parts cut ∙ fraction_parts whole fraction)
 
   pub with_fraction : (units : ℕ) (read : Option ℕ) → Some units ≡ number_of 4 whole →
       read ≡ option_map (λ parts. parts * 10 ^ (3 - length fraction)) (number_of 3 fraction) →
       option_map (λ q. 1000 * units + q) read ≡ thousandths_of_parts (slice_split is_point text)
-  unfolding thousandths_of_parts
   with_fraction units read h is =
       ap (option_map (λ q. 1000 * units + q)) is
       ∙ regroup units (λ parts. parts * 10 ^ (3 - length fraction)) (number_of 3 fraction)
-      ∙ ap (option_and_then (λ units. option_and_then (λ parts. Some (1000 * units + parts * 10 ^ (3 - length fraction))) (number_of 3 fraction))) h
-      ∙ sym (ap thousandths_of_parts two)
+      ∙ ap (λ o. joined (length fraction) o (number_of 3 fraction)) h
+      ∙ sym (ap thousandths_of_parts cut ∙ fraction_parts whole fraction)
 
 -- odds in their range
 pub odds_none : (text : List ℕ) → None ≡ thousandths_of_parts (slice_split is_point text) → None ≡ odds_of text
@@ -154,13 +184,3 @@ pub odds_some : (text : List ℕ) (odds : Option Odds) (n : ℕ) → Some n ≡ 
     IfSome odds (λ o. o.thousandths ≡ n) → (IsSome odds ↔ ((1001 ≤ n) × (n ≤ 1000000))) → option_map (λ o. o.thousandths) odds ≡ odds_of text
 unfolding odds_of
 odds_some text odds n h is iff = in_range odds n is iff ∙ ap (option_and_then (within 1001 1000000)) h
-
--- whether a point was found
-pub no_point : (text : List ℕ) (found : Option ℕ) (none : Bool) → found ≡ position is_point text → is_some found ≡ not none → none ≡ true → position is_point text ≡ None
-no_point text None none is test h = sym is
-no_point text (Some at) none is test h = absurd (false≢true (sym (test ∙ ap not h)))
-
-pub some_point : (text : List ℕ) (found : Option ℕ) (none : Bool) → found ≡ position is_point text → is_some found ≡ not none → none ≡ false →
-    length (slice_split is_point text) ≢ 2 → None ≡ thousandths_of_parts (slice_split is_point text)
-some_point text None none is test h many = absurd (false≢true (test ∙ ap not h))
-some_point text (Some at) none is test h many = many_points text at (sym is) many

@@ -18,13 +18,10 @@ pub fn cut(text: &[u8], separator: u8) -> Option<(&[u8], &[u8])>
         (λ parts. slice_split (λ byte. byte == separator) text.now
         ≡ parts.0.now ∷ slice_split (λ byte. byte == separator) parts.1.now) }
 {
-    match find(text, separator) {
-        None => None,
-        Some(at) => Some((&text[..at], &text[at + 1..])),
-    }
+    find(text, separator).map(|at| (&text[..at], &text[at + 1..]))
 }
 
-/// The two parts of a text round the only one of these bytes. `None` where the byte stands there not once.
+/// The two parts of a text round the only one of these bytes. `None` where the byte is not there, or more than once.
 pub fn two_parts(text: &[u8], separator: u8) -> Option<(&[u8], &[u8])>
     ensures { MatchOption result
         (length (slice_split (λ byte. byte == separator) text.now) ≢ 2)

@@ -3,7 +3,7 @@ ghost use Rattle.std.specs.Prelude.{◌≡◌, ◌-◌, ◌*◌, ◌^◌, ◌<�
 ghost use Rattle.feed_definitions.specs.Numbers.{number_of, odds_of, thousandths_of_parts, is_point};
 ghost use Rattle.std.specs.List.{slice_split};
 
-use crate::fields::{find, two_parts};
+use crate::fields::cut;
 use crate::number_text::read_number;
 use scan_types::Odds;
 
@@ -24,13 +24,14 @@ fn read_fraction(text: &[u8]) -> Option<u32>
 fn read_thousandths(text: &[u8]) -> Option<u32>
     ensures { result ≡ thousandths_of_parts (slice_split is_point text.now) }
 {
-    if find(text, b'.').is_none() {
-        return Some(1000 * read_number(text, 4)?);
+    match cut(text, b'.') {
+        None => Some(1000 * read_number(text, 4)?),
+        Some((whole, fraction)) => {
+            let units = read_number(whole, 4)?;
+            let parts = read_fraction(fraction)?;
+            Some(1000 * units + parts)
+        }
     }
-    let (whole, fraction) = two_parts(text, b'.')?;
-    let units = read_number(whole, 4)?;
-    let parts = read_fraction(fraction)?;
-    Some(1000 * units + parts)
 }
 
 /// Decimal odds: 1 to 4 digits, and then nothing or a point and 1 to 3 digits, from 1.001 to 1000.000.

@@ -62,10 +62,7 @@ impl Taken {
             (IsOneLine (drop from self.now.bytes.items))
             (λ end. IsEndedAt self.now.bytes.items from end) }
     {
-        match find(&self.bytes[from..], b'\n') {
-            None => None,
-            Some(at) => Some(from + at),
-        }
+        find(&self.bytes[from..], b'\n').map(|at| from + at)
     }
 
     /// Makes one read, and answers how many bytes it took: 0 only where none are left.

@@ -42,6 +42,16 @@ fn last_step(
     Ok(None)
 }
 
+/// How many bytes a source has left, where they are at most 300.
+fn bytes_left<S: Source + Drop>(mut source: S) -> Result<Option<usize>, Fail> {
+    for read in 0..301 {
+        if source.read(&mut [0; 1])? == 0 {
+            return Ok(Some(read));
+        }
+    }
+    Ok(None)
+}
+
 #[test]
 fn a_plain_feed_gives_the_same_steps_in_any_pieces(rt: HostRuntime) -> Result<(), Fail> {
     let text = b"feed 1 alpha void\nquote m1 1x2 home 2.100 100000\nquote m1 1x2 away 4.5 1\n";
@@ -75,53 +85,56 @@ fn a_plain_feed_gives_the_same_steps_in_any_pieces(rt: HostRuntime) -> Result<()
     Ok(())
 }
 
+/// Texts, each with its last step.
+const FIRST_NOT_PLAIN: [(&str, Step); 16] = [
+    ("", Step::NotBuilt(1)),
+    ("feed 1 alpha void", Step::NotBuilt(1)),
+    ("feed 1 alpha void\n", Step::End),
+    ("feed 1 alpha void\r\n", Step::NotBuilt(1)),
+    ("feed 2 alpha void\n", Step::NotBuilt(1)),
+    ("feed 1 alpha score\n", Step::NotBuilt(1)),
+    (
+        "feed 1 alpha void\nquote m1 1x2 home 2.1 5",
+        Step::NotBuilt(2),
+    ),
+    ("feed 1 alpha void\n\n", Step::NotBuilt(2)),
+    (
+        "feed 1 alpha void\nquote m1 1x2 home 2.1 0\n",
+        Step::NotBuilt(2),
+    ),
+    (
+        "feed 1 alpha void\nquote m1 1x2 home 1.000 5\n",
+        Step::NotBuilt(2),
+    ),
+    (
+        "feed 1 alpha void\nquote m1 1x2 home 1000.001 5\n",
+        Step::NotBuilt(2),
+    ),
+    (
+        "feed 1 alpha void\nquote m1 1x2 home 2.1000 5\n",
+        Step::NotBuilt(2),
+    ),
+    (
+        "feed 1 alpha void\nquote m1  1x2 home 2.1 5\n",
+        Step::NotBuilt(2),
+    ),
+    (
+        "feed 1 alpha void\nquote m1 1x2 home 2.1 5 \n",
+        Step::NotBuilt(2),
+    ),
+    (
+        "feed 1 alpha void\nquote m1 total 2.5 over 2.1 100\n",
+        Step::NotBuilt(2),
+    ),
+    (
+        "feed 1 alpha void\nquote m1 1x2 draw 1000 100000000\nwithdraw m1 1x2 draw\n",
+        Step::NotBuilt(3),
+    ),
+];
+
 #[test]
 fn a_feed_ends_at_its_first_line_that_is_not_plain(rt: HostRuntime) -> Result<(), Fail> {
-    for (text, want) in [
-        ("", Step::NotBuilt(1)),
-        ("feed 1 alpha void", Step::NotBuilt(1)),
-        ("feed 1 alpha void\n", Step::End),
-        ("feed 1 alpha void\r\n", Step::NotBuilt(1)),
-        ("feed 2 alpha void\n", Step::NotBuilt(1)),
-        ("feed 1 alpha score\n", Step::NotBuilt(1)),
-        (
-            "feed 1 alpha void\nquote m1 1x2 home 2.1 5",
-            Step::NotBuilt(2),
-        ),
-        ("feed 1 alpha void\n\n", Step::NotBuilt(2)),
-        (
-            "feed 1 alpha void\nquote m1 1x2 home 2.1 0\n",
-            Step::NotBuilt(2),
-        ),
-        (
-            "feed 1 alpha void\nquote m1 1x2 home 1.000 5\n",
-            Step::NotBuilt(2),
-        ),
-        (
-            "feed 1 alpha void\nquote m1 1x2 home 1000.001 5\n",
-            Step::NotBuilt(2),
-        ),
-        (
-            "feed 1 alpha void\nquote m1 1x2 home 2.1000 5\n",
-            Step::NotBuilt(2),
-        ),
-        (
-            "feed 1 alpha void\nquote m1  1x2 home 2.1 5\n",
-            Step::NotBuilt(2),
-        ),
-        (
-            "feed 1 alpha void\nquote m1 1x2 home 2.1 5 \n",
-            Step::NotBuilt(2),
-        ),
-        (
-            "feed 1 alpha void\nquote m1 total 2.5 over 2.1 100\n",
-            Step::NotBuilt(2),
-        ),
-        (
-            "feed 1 alpha void\nquote m1 1x2 draw 1000 100000000\nwithdraw m1 1x2 draw\n",
-            Step::NotBuilt(3),
-        ),
-    ] {
+    for (text, want) in FIRST_NOT_PLAIN {
         assert_eq!(rt;
             last_step(rt.alloc(), text.as_bytes(), 7, &[])?,
             Some(want),
@@ -147,14 +160,30 @@ fn a_line_without_end_is_read_no_further_than_its_form_goes(rt: HostRuntime) -> 
     let text = [b'a'; 300];
     let mut reader = reader_of(rt.alloc(), &text, 1, &[])?;
     assert_eq!(rt; next_step(&mut reader)?, Some(Step::NotBuilt(1)));
-    let mut source = reader.into_source();
-    for read in 0..300 {
-        if source.read(&mut [0; 1])? == 0 {
-            assert_eq!(rt; read, 99);
-            return Ok(());
-        }
-    }
-    panic!(rt; "the reader left 300 bytes")
+    assert_eq!(rt; bytes_left(reader.into_source())?, Some(99));
+    Ok(())
+}
+
+#[test]
+fn a_step_reads_up_to_the_first_line_feed(rt: HostRuntime) -> Result<(), Fail> {
+    let header = b"feed 1 alpha void\n";
+    let quotes = b"quote m1 1x2 home 2.100 5\nquote m1 1x2 away 4.5 1\n";
+    let mut text = header.to_vec(rt.alloc())?;
+    text.extend_from_slice(quotes)?;
+    let mut reader = reader_of(rt.alloc(), text.as_slice(), 1, &[])?;
+    assert!(rt; matches!(next_step(&mut reader)?, Some(Step::Header(_))));
+    assert_eq!(rt; bytes_left(reader.into_source())?, Some(quotes.len()));
+    Ok(())
+}
+
+#[test]
+fn a_read_offers_4096_bytes(rt: HostRuntime) -> Result<(), Fail> {
+    let mut text = b"feed 1 alpha void\n".to_vec(rt.alloc())?;
+    text.resize(4_096 + 150, b'a')?;
+    let mut reader = reader_of(rt.alloc(), text.as_slice(), 8_192, &[])?;
+    assert!(rt; matches!(next_step(&mut reader)?, Some(Step::Header(_))));
+    assert_eq!(rt; bytes_left(reader.into_source())?, Some(150));
+    Ok(())
 }
 
 #[test]

@@ -41,7 +41,7 @@ abbrev pub feed_line : ℕ × FeedPart → List ℕ
 feed_line numbered = let feed = numbered.1 in line_of (codes "feed" ∷ decimal numbered.0 ∷ feed.book ∷ rule_text feed.rule
     ∷ codes "lines" ∷ decimal feed.lines ∷ codes "refused" ∷ decimal 0 ∷ codes "end" ∷ [])
 
--- the report of these feeds and matches, where each run of a program has so many pivots
+-- the report of these feeds and matches, and of this budget of pivots
 unfoldable pub report_text : ℕ → List FeedPart → List MatchPart → List ℕ
 report_text pivots feeds matches = line_of (codes "arbscan" ∷ codes "report" ∷ decimal 1 ∷ [])
     ++ line_of (codes "pivots" ∷ decimal pivots ∷ [])

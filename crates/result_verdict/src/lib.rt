@@ -9,8 +9,8 @@
 //! - `verdict`: the finding itself, `first_finding`.
 //! - `laws`: a sheet has one finding, and which limit scales the floors.
 //!
-//! `first_finding` walks the offers three times, once for the best odds on each result, and then makes
-//! a fixed number of steps. It takes memory for the certificate alone.
+//! `first_finding` walks the offers three times, once for the best odds on each result, and then fills
+//! one stake for each offer. It takes memory for the certificate alone.
 #![tactic(auto)]
 
 mod best;

@@ -1,4 +1,4 @@
-// The largest sizes, each with its reason.
+// The largest sizes.
 
 /// Feeds of one run, one per bookmaker.
 pub const MOST_FEEDS: usize = 8;

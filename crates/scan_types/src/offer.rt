@@ -1,10 +1,12 @@
 ghost use Rattle.std.specs.Prelude.{◌≡◌, ◌≤◌, IfSome, IsSome, IsTrue, ◌↔◌};
 
+use crate::limits::{MOST_FEEDS, MOST_LIMIT};
 use crate::odds::Odds;
 use crate::rule::VoidRule;
 use crate::selection::Selection;
 
 /// One book's offer on one match: up to `limit` minor units may be staked at `odds`.
+/// `feed` is 0 to 7, `limit` 1 to 100,000,000 minor units.
 #[derive(Clone, Copy, Debug, PartialEq, Eq, Hash)]
 pub struct Offer {
     pub feed: u8,
@@ -33,7 +35,7 @@ impl Offer {
         ensures value { IfSome result (λ offer. HasTerms offer feed selection odds limit rule) }
         ensures in_range { IsSome result ↔ (IsFeedNumber feed × IsLimitRange limit) }
     {
-        if feed <= 7 && 1 <= limit && limit <= 100_000_000 {
+        if usize::from(feed) < MOST_FEEDS && 1 <= limit && limit <= MOST_LIMIT {
             Some(Offer {
                 feed,
                 selection,
