@@ -28,7 +28,7 @@ abbrev pub OneListOfMatches : Type 0
 OneListOfMatches =
     (feeds : List FeedPart) (xs ys : List MatchPart) → AreFoundMatches feeds xs → AreFoundMatches feeds ys → xs ≡ ys
 
--- the text is that of the feeds and their matches, where each run of a program has so many pivots
+-- the text is that of the feeds, their matches and this budget of pivots
 abbrev pub IsReportText : ℕ → List FeedPart → List ℕ → Type 0
 IsReportText pivots feeds text = (matches : List MatchPart) × AreFoundMatches feeds matches × (text ≡ report_text pivots feeds matches)
 
