@@ -1,7 +1,8 @@
 #!/usr/bin/env bash
 # Pivots a made tableau of 356 rows by 613 columns, and prints the pivots per second of `pivot_rule::run` and of a plain
-# loop in C over 128-bit rows that does the same work: the same choices, the same tests of each product, the same
-# divisions. It is no part of the gate. It needs `rt` and `cc`, and proves and builds its program in a folder of its own.
+# loop in C over 128-bit rows that does the same work in the plain way: the same choices and the same rows, with a test of
+# each product and a division of each entry. It is no part of the gate. It needs `rt` and `cc`, and proves and builds its
+# program in a folder of its own.
 #
 #     bench/pivots.sh [RUNS] [PIVOTS]     RUNS runs of PIVOTS pivots each (20 and 12 if not given)
 set -eu
