@@ -4,7 +4,7 @@
 //! - `laws`: what holds of the definitions themselves.
 //!
 //! The definitions stand in `specs`: `Lines` (a text as lines), `Numbers` (odds and limits), `Plain` (the plain feed text as one
-//! function of all the bytes) and `Views` (what the types here stand for).
+//! function of all the bytes), `Answered` (what the lines answered so far have brought) and `Views` (what the types here stand for).
 #![tactic(auto)]
 
 mod accepted;

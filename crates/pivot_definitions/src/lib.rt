@@ -1,6 +1,6 @@
 //! Definitions about linear programs in whole numbers, their simplex tableaus over whole numbers without bound, and runs
-//! of pivots by Bland's rule. There is no code here: the definitions stand in specs/, and each function below has an empty
-//! body and a law of the definitions as its contract.
+//! of pivots by Bland's rule. There is no code here: the definitions stand in specs/, and each function below has laws of
+//! the definitions as its contract, and a body that is empty or calls the law on which it rests.
 //!
 //! - `Programs`: a program, and the cap that keeps column 0 at 1 or below.
 //! - `Tableaus`: the tableau of a program, a pivot in which nothing is divided, the kept form, and where a pivot of kept
@@ -8,6 +8,7 @@
 //! - `Runs`: Bland's choice, runs, and the three ends of a run.
 //! - `Feasible`: what holds of every tableau that a run reaches.
 //! - `Duality`: the multipliers and the basic solution of a tableau that a run reaches.
+//! - `Laws`: the pivot of a kept form.
 //!
 //! - `kept_form_law`: a pivot of kept forms gives the kept form of the plain pivot.
 //! - `run_law`: a tableau's choice is one, and a run is one run.

@@ -47,6 +47,12 @@ fn level(rt: &impl Abort, tableau: &Tableau) -> (i128, i128) {
     tableau.value(0)
 }
 
+fn objective(rt: &impl Abort, tableau: &Tableau, column: u32) -> i128 {
+    let columns = tableau.columns();
+    assert!(rt; column < columns);
+    tableau.objective(column)
+}
+
 // Three results and three offers: each gains 1 at two of them and loses 2 at the third, so no stakes gain at all three.
 fn three_way(alloc: Global) -> Result<Tableau, Fail>
     ensures { IfOk result IsCappedStart }
@@ -176,5 +182,23 @@ fn says_where_a_number_would_pass_128_bits(rt: HostRuntime) -> Result<(), Fail> 
         }
     );
     assert_eq!(rt; level(&rt, &later), (0, LARGE));
+    Ok(())
+}
+
+// Column 0 is at most three times column 1, and 2^126 times column 1 is at most 1. The second pivot would multiply 3 by
+// 2^126 in column 1 of row 1, of the cap and of the objective row: of the places the first is answered.
+#[test]
+fn says_the_constraint_row_where_the_objective_row_passes_too(rt: HostRuntime) -> Result<(), Fail> {
+    let mut tableau = started(rt.alloc(), 2, 3, &[0, LARGE, 1, -3, 1, 0], &[1, 0, 1])?;
+    assert_eq!(rt;
+        run(&mut tableau, 5),
+        RunEnd::Wide {
+            pivots: 1,
+            row: 1,
+            column: 1
+        }
+    );
+    assert_eq!(rt; objective(&rt, &tableau, 1), 3);
+    assert_eq!(rt; level(&rt, &tableau), (0, 1));
     Ok(())
 }

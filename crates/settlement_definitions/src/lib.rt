@@ -5,6 +5,8 @@
 //!   abandoned match.
 //! - `specs/Gain`: gain, payment and net of a bet.
 //! - `specs/Arbitrage`, `specs/Measure`, `specs/Verdicts`: arbitrage, price measures, right verdicts.
+//! - `specs/LegSigns`, `specs/LaterGoals`: lemmas, there because the test of what is decided is built from them.
+//! - `specs/Laws`: the laws' statements.
 //! - `laws`: what follows from the definitions, each as the contract of a function that does nothing.
 //!
 //! Scores range over all whole numbers here.

@@ -18,7 +18,7 @@ pub trait Kept: Drop {
     /// The number of the caller that added an entry.
     ghost caller: { Self.Entry → ℕ };
 
-    /// How many entries the list has.
+    /// How many entries the list has. Each commit calls it during its turn, so it is to cost next to nothing.
     fn count(&self) -> u64
         ensures { result ≡ length (entries self.now) };
 }
