@@ -20,7 +20,7 @@ pub struct Passed {
 /// pivot`, in which nothing is divided, is a positive multiple of it. Where a product or a difference passes 128 bits,
 /// the first such column is answered and the target stays as it was. The pivot's entry in the column is above 0, and no
 /// entry is the least `i128`. Both rows have one length, below 2^32, and `at` is one of their columns. Costs a scan of
-/// both rows for the test, one that writes, and `primitive`.
+/// each row that sees whether both are narrow, `first_passing` where they are not, a scan that writes, and `primitive`.
 pub fn combine(target: &mut [i128], pivot: &[i128], at: usize) -> Result<(), Passed>
     requires lengths { length target.old ≡ length pivot.now }
     requires columns { length target.old < 2 ^ 32 }
@@ -38,7 +38,7 @@ pub fn combine(target: &mut [i128], pivot: &[i128], at: usize) -> Result<(), Pas
 
     ensures fits { All FitsEntry target.new }
 {
-    match first_passing(target, pivot, at) {
+    match passing(target, pivot, at) {
         Some(column) => Err(Passed { column }),
         None => {
             combine_within(target, pivot, at);
@@ -47,9 +47,9 @@ pub fn combine(target: &mut [i128], pivot: &[i128], at: usize) -> Result<(), Pas
     }
 }
 
-/// The test of `combine`: the first column in which it passes 128 bits. The conditions are those of `combine`. Rows whose
-/// numbers fit 64 bits need no product formed.
-pub fn first_passing(target: &[i128], pivot: &[i128], at: usize) -> Option<u32>
+// The test of `combine`: two narrow rows pass nowhere, which costs a scan of each; only where one of them is not narrow
+// are products formed.
+fn passing(target: &[i128], pivot: &[i128], at: usize) -> Option<u32>
     requires lengths { length target.now ≡ length pivot.now }
     requires columns { length target.now < 2 ^ 32 }
     requires at_in_range { at < length target.now }
@@ -63,6 +63,23 @@ pub fn first_passing(target: &[i128], pivot: &[i128], at: usize) -> Option<u32>
     if is_narrow(target) && is_narrow(pivot) {
         return None;
     }
+    first_passing(target, pivot, at)
+}
+
+/// The test of `combine`, as one scan of both rows that forms each product and each difference up to the first that
+/// passes: the first column in which the combination passes 128 bits. The conditions are those of `combine`. A caller that
+/// knows that both rows are narrow, as `is_narrow` says, need not ask.
+pub fn first_passing(target: &[i128], pivot: &[i128], at: usize) -> Option<u32>
+    requires lengths { length target.now ≡ length pivot.now }
+    requires columns { length target.now < 2 ^ 32 }
+    requires at_in_range { at < length target.now }
+    requires positive { pos 0 <ℤ entry pivot.now at }
+    requires target_fits { All FitsEntry target.now }
+    requires pivot_fits { All FitsEntry pivot.now }
+
+    ensures first { IfSome result (PassesFirst target.now pivot.now at) }
+    ensures nowhere { IfNone result (PassesNowhere target.now pivot.now at) }
+{
     let factors = factors_of(target, pivot, at);
     for column in 0..target.len() {
         if checked_entry(target[column], pivot[column], factors).is_none() {

@@ -29,6 +29,13 @@ fn tests_before_it_combines(rt: HostRuntime) {
 }
 
 #[test]
+fn narrow_to_63_bits_and_a_sign(rt: HostRuntime) {
+    assert!(rt; is_narrow(&[0x7fff_ffff_ffff_ffff, -0x7fff_ffff_ffff_ffff, 0]));
+    assert!(rt; !is_narrow(&[0x8000_0000_0000_0000, 0]));
+    assert!(rt; !is_narrow(&[0, -0x8000_0000_0000_0000]));
+}
+
+#[test]
 fn primitive_keeps_signs(rt: HostRuntime) {
     let mut row = [-6, 0, 4, -10];
     primitive(&mut row);

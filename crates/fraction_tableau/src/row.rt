@@ -6,31 +6,38 @@ ghost use Rattle.pivot_definitions.specs.Tableaus.{built_row, built_objective};
 ghost use Rattle.fraction_tableau.specs.Combinable.{Combinable};
 
 use crate::program::Program;
+use fraction_rows::is_narrow;
 use scan_types::WantOfMemory;
 use std::alloc::{AllocError, Global};
 use std::marker::Model;
 
-// One row of a tableau. Only this module knows where a row's numbers are.
+// One row of a tableau. Only this module knows where a row's numbers are. With them stands whether they fit 64 bits: of
+// two such rows no combination passes, so a pivot forms no product to test them.
 #[derive(Debug, Drop)]
 pub(crate) struct Row {
     entries: Vec<i128>,
+    narrow: bool,
 }
 
 impl Model for Row {
-    ghost use Rattle.std.specs.Prelude.{List, ℤ};
+    ghost use Rattle.std.specs.Prelude.{List, ℤ, IsTrue};
+    ghost use Rattle.std.specs.List.{All};
+    ghost use Rattle.fraction_rows.specs.Narrow.{IsNarrow};
 
     ghost Value = { List ℤ };
 
     ghost view = { λ r. r.entries.items };
+
+    ghost invariant = { λ r. IsTrue r.narrow → All IsNarrow r.entries.items };
 }
 
 impl Row {
-    // A row of these numbers.
-    #[cfg(test)]
+    // A row of these numbers. Costs one scan.
     pub(crate) fn of(entries: Vec<i128>) -> Row
         ensures { result ≡ entries.items }
     {
-        Row { entries }
+        let narrow = is_narrow(&entries);
+        Row { entries, narrow }
     }
 
     pub(crate) fn constraint(
@@ -50,7 +57,7 @@ impl Row {
         entries.push(1)?;
         push_zeros(&mut entries, rows - 1 - row)?;
         entries.push(program.right()[row])?;
-        Ok(Row { entries })
+        Ok(Row::of(entries))
     }
 
     pub(crate) fn objective(alloc: Global, program: &Program) -> Result<Row, AllocError>
@@ -60,7 +67,7 @@ impl Row {
         let mut entries = Vec::with_capacity(alloc, zeros + 1)?;
         entries.push(1)?;
         push_zeros(&mut entries, zeros)?;
-        Ok(Row { entries })
+        Ok(Row::of(entries))
     }
 
     pub(crate) fn entries(&self) -> &[i128]
@@ -70,7 +77,7 @@ impl Row {
     }
 
     // The first column in which the combination with the pivot row passes 128 bits. A row that is 0 in the column stays as
-    // it is, and passes nowhere.
+    // it is, and passes nowhere; nor does the combination of two narrow rows. Any others cost one scan of both.
     pub(crate) fn first_passing(&self, pivot: &Row, column: usize) -> Option<u32>
         requires { Combinable self.now pivot.now column }
         ensures first { IfSome result (PassesFirst self.now pivot.now column) }
@@ -79,10 +86,14 @@ impl Row {
         if self.entries[column] == 0 {
             return None;
         }
+        if self.narrow && pivot.narrow {
+            return None;
+        }
         fraction_rows::first_passing(self.entries(), pivot.entries(), column)
     }
 
-    // Makes the row 0 in the column by the combination with the pivot row.
+    // Makes the row 0 in the column by the combination with the pivot row. Where the row is changed, one more scan sees
+    // whether it is narrow now.
     pub(crate) fn combine(&mut self, pivot: &Row, column: usize)
         requires combinable { Combinable self.old pivot.now column }
         requires passes_nowhere { PassesNowhere self.old pivot.now column }
@@ -91,6 +102,7 @@ impl Row {
     {
         if self.entries[column] != 0 {
             fraction_rows::combine_within(self.entries.as_mut_slice(), pivot.entries(), column);
+            self.narrow = is_narrow(&self.entries);
         }
     }
 }

@@ -2,7 +2,6 @@ use Rattle.std.proofs.Common.{◌<◌, length, SFits, to_z-of_z, below_more, rul
 use Rattle.std.specs.Int.{w128}
 use Rattle.row_definitions.specs.Rows.{entry}
 use Rattle.row_definitions.specs.Combination.{FitsAt}
-use Rattle.fraction_rows.proofs.NarrowRows.{narrow-passes_nowhere}
 use Rattle.fraction_rows.proofs.Columns.{fails_from_none, holds_from_some}
 use Rattle.fraction_rows.proofs.combination.first_passing.Goals as goal
 
@@ -30,7 +29,3 @@ loop-column-preserved c =
 
 pub returns-clause-nowhere : goal.returns-clause-nowhere
 returns-clause-nowhere c column below = c.loop-column.invariant column (omega arith)
-
-pub returns-then-is_narrow-2-clause-nowhere : goal.returns-then-is_narrow-2-clause-nowhere
-returns-then-is_narrow-2-clause-nowhere c =
-    narrow-passes_nowhere c.args.target.now c.args.pivot.now c.args.at (c.is_narrow.ensures.0 c.if-is_narrow.true) (c.is_narrow-then-is_narrow.ensures.0 c.if-is_narrow-2.true)
