@@ -1,8 +1,8 @@
 -- Inverses of odd numbers modulo 2^128 by Newton's method, and exact division by them.
-use Rattle.std.proofs.Common.{subst, ◌≡◌, ℕ, zero, suc, ◌+◌, ◌-◌, ◌*◌, ◌/◌, ◌%◌, ◌^◌, ◌<◌, ℤ, pos, negsuc, ◌+ℤ◌, ◌-ℤ◌, ◌*ℤ◌, neg_ℤ, unsigned_abs, refl, sym, ap, ap₂, ◌∙◌, arith, lt_of_le_of_lt}
+use Rattle.std.proofs.Common.{subst, ◌≡◌, ℕ, zero, suc, ◌+◌, ◌-◌, ◌*◌, ◌/◌, ◌%◌, ◌^◌, ◌<◌, ◌≤◌, ℤ, pos, negsuc, ◌+ℤ◌, ◌-ℤ◌, ◌*ℤ◌, ◌<ℤ◌, neg_ℤ, unsigned_abs, refl, sym, ap, ap₂, ◌∙◌, arith, lt_of_le_of_lt}
 use Rattle.std.specs.Int.{◌∣◌, w128, cast_signed, int_wrap}
 use Rattle.std.proofs.lemmas.Int.{ints, int_wrap_fits, int_wrap-mul_left, int_wrap-mul_right, int_wrap-sub_right, wrapping_mul-bits, wrapping_sub-bits, fits_signed_from_abs, unsigned_abs-mul}
-use Rattle.std.proofs.lemmas.Nat.{pow-add}
+use Rattle.std.proofs.lemmas.Nat.{pow-add, le-div}
 use Rattle.std.proofs.Math.IntN.{*ℤ_comm, zero-*ℤ}
 use Rattle.std.proofs.Math.Nat.{mul-div_cancel_left, pow-suc, mod-lt, dvd-mul_left}
 use lib.Arith.{digits_div}
@@ -12,6 +12,7 @@ use lib.Signed.{shr_z}
 use Rattle.row_definitions.specs.Rows.{divided}
 use Rattle.row_definitions.specs.Combination.{FitsEntry}
 use Rattle.row_definitions.proofs.Numbers.{divided-exact, one-*ℤ, *ℤ-+ℤ, *ℤ--ℤ, *ℤ_assoc, *ℤ_swap, unsigned_abs-divided-le}
+use Rattle.row_definitions.proofs.Combinations.{size-pos}
 use Rattle.fraction_rows.specs.Exact.{HasInverse}
 
 -- ---- the odd part
@@ -96,7 +97,7 @@ all_bits k =
 pub exact_quotient : (divisor twos : ℕ) (inverse x : ℤ) → HasInverse divisor twos inverse → divisor ∣ unsigned_abs x → FitsEntry x → int_wrap w128 (shr_z x (2 ^ twos) *ℤ inverse) ≡ divided divisor x
 exact_quotient divisor twos inverse x inverted divides fits =
     let y = divided divisor x in
-    let odd = pos inverted.odd in
+    let odd = pos (divisor / 2 ^ twos) in
     let whole : x ≡ pos (2 ^ twos) *ℤ (odd *ℤ y) = sym (divided-exact divisor x divides) ∙ ap (λ d. pos d *ℤ y) inverted.is ∙ *ℤ_assoc (pos (2 ^ twos)) odd y in
     let shift : shr_z x (2 ^ twos) ≡ odd *ℤ y = ap (λ z. shr_z z (2 ^ twos)) whole ∙ shifted (2 ^ twos) (odd *ℤ y) (pow_pos twos) in
     let regrouped : (odd *ℤ y) *ℤ inverse ≡ y *ℤ (odd *ℤ inverse) = ap (λ z. z *ℤ inverse) (*ℤ_comm odd y) ∙ *ℤ_assoc y odd inverse in
@@ -107,3 +108,20 @@ exact_quotient divisor twos inverse x inverted divides fits =
 -- a factor divides a product
 pub divides_product : (d q x : ℤ) → q *ℤ d ≡ x → unsigned_abs d ∣ unsigned_abs x
 divides_product d q x is = subst (λ n. unsigned_abs d ∣ n) (sym (unsigned_abs-mul q d) ∙ ap unsigned_abs is) (dvd-mul_left (unsigned_abs d) (unsigned_abs q))
+
+-- a number above 0 is its size
+sized : (d : ℤ) → pos 0 <ℤ d → pos (unsigned_abs d) ≡ d
+sized (pos n) above = refl
+sized (negsuc n) above = absurd (omega (arith, ints))
+
+-- the quotient times the divisor
+pub multiplied_back : (d x : ℤ) → pos 0 <ℤ d → unsigned_abs d ∣ unsigned_abs x → divided (unsigned_abs d) x *ℤ d ≡ x
+multiplied_back d x above divides =
+    *ℤ_comm (divided (unsigned_abs d) x) d ∙ ap (λ e. e *ℤ divided (unsigned_abs d) x) (sym (sized d above)) ∙ divided-exact (unsigned_abs d) x divides
+
+-- no quotient of an entry is larger than that of the largest
+pub quotient-le : (d x : ℤ) → pos 0 <ℤ d → unsigned_abs d ∣ unsigned_abs x → FitsEntry x → unsigned_abs (divided (unsigned_abs d) x) ≤ (2 ^ 127 - 1) / unsigned_abs d
+quotient-le d x above divides fits =
+    let y = divided (unsigned_abs d) x in
+    let size : unsigned_abs y * unsigned_abs d ≡ unsigned_abs x = sym (unsigned_abs-mul y d) ∙ ap unsigned_abs (multiplied_back d x above divides) in
+    le-div (unsigned_abs y) (2 ^ 127 - 1) (unsigned_abs d) (size-pos d above) (omega arith)

@@ -1,12 +1,13 @@
 -- The greatest common divisor of the entries read so far.
 use Rattle.std.proofs.Common.{◌≡◌, ℕ, zero, suc, ◌+◌, ◌<◌, ◌≤◌, List, [], ◌∷◌, ◌++◌, length, take, ℤ, pos, unsigned_abs, subst, sym, ◌^◌, ◌⊎◌, inl, inr, All, ◌<ℤ◌, eq-zero-or-pos, lt_of_le_of_lt, lit<}
 use Rattle.std.specs.Int.{◌∣◌, IsGcd}
-use Rattle.std.proofs.lemmas.Nat.Gcd.{dvd_trans, dvd_refl, le_of_dvd}
+use Rattle.std.proofs.lemmas.Nat.Gcd.{dvd_trans, dvd_refl, dvd-zero, le_of_dvd}
 use Rattle.std.proofs.lemmas.List.Elements.{All-take, All-nil, All-cons, All-head, All-tail}
 use Rattle.std.proofs.lemmas.List.{take_more, take_all}
-use Rattle.std.proofs.Math.Nat.{one-dvd, eq-zero_of_zero-dvd}
+use Rattle.std.proofs.Math.Nat.{eq-zero_of_zero-dvd}
 use Rattle.row_definitions.specs.Rows.{entry, row_divisor}
 use Rattle.row_definitions.specs.Combination.{FitsEntry}
+use Rattle.row_definitions.proofs.Numbers.{zero_from_size}
 use Rattle.row_definitions.proofs.Divisors.{Divides, IsRowGcd, row_divisor_is, row_divisor_from}
 use Rattle.row_definitions.proofs.Primitives.{row_divisor-pos}
 use Rattle.row_definitions.proofs.Combinations.{size-pos}
@@ -14,6 +15,9 @@ use Rattle.row_definitions.proofs.Combinations.{size-pos}
 Divides-push : (d : ℕ) (row : List ℤ) (x : ℤ) → Divides d row → d ∣ unsigned_abs x → Divides d (row ++ x ∷ [])
 Divides-push d [] x h w = (w, tt)
 Divides-push d (y ∷ row) x h w = (h.0, Divides-push d row x h.1 w)
+
+pub Divides-more : (d : ℕ) (row : List ℤ) (i : ℕ) → i < length row → Divides d (take i row) → d ∣ unsigned_abs (entry row i) → Divides d (take (i + 1) row)
+Divides-more d row i below h w = subst (Divides d) (sym (take_more row i (pos 0) below)) (Divides-push d (take i row) (entry row i) h w)
 
 Divides-parts : (d : ℕ) (row : List ℤ) (x : ℤ) → Divides d (row ++ x ∷ []) → Divides d row × (d ∣ unsigned_abs x)
 Divides-parts d [] x h = (tt, h.0)
@@ -28,10 +32,6 @@ Divides-take d zero row h = tt
 Divides-take d (suc i) [] h = tt
 Divides-take d (suc i) (x ∷ row) h = (h.0, Divides-take d i row h.1)
 
-Divides-one : (row : List ℤ) → Divides 1 row
-Divides-one [] = tt
-Divides-one (x ∷ row) = (one-dvd (unsigned_abs x), Divides-one row)
-
 IsRowGcd-push : (row : List ℤ) (x : ℤ) (g h : ℕ) → IsRowGcd row h → IsGcd (unsigned_abs x) h g → IsRowGcd (row ++ x ∷ []) g
 IsRowGcd-push row x g h is step = (
   Divides-push g row x (Divides-down row g h step.1 is.0) step.0,
@@ -43,14 +43,19 @@ pub IsRowGcd-more : (row : List ℤ) (i : ℕ) (g h : ℕ) → i < length row �
 IsRowGcd-more row i g h below is step =
     subst (λ r. IsRowGcd r g) (sym (take_more row i (pos 0) below)) (IsRowGcd-push (take i row) (entry row i) g h is step)
 
--- one more entry is read, which the divisor divides
-pub IsRowGcd-same : (row : List ℤ) (i d : ℕ) → i < length row → IsRowGcd (take i row) d → d ∣ unsigned_abs (entry row i) → IsRowGcd (take (i + 1) row) d
-IsRowGcd-same row i d below is divides = IsRowGcd-more row i d d below is (divides, dvd_refl d, λ k w h. h)
+-- one more entry is read, which is 0
+pub IsRowGcd-zero : (row : List ℤ) (i d : ℕ) → i < length row → IsRowGcd (take i row) d → entry row i ≡ pos 0 → IsRowGcd (take (i + 1) row) d
+IsRowGcd-zero row i d below is zero_there =
+    let divides : d ∣ unsigned_abs (entry row i) = subst (λ z. d ∣ unsigned_abs z) (sym zero_there) (dvd-zero d) in
+    IsRowGcd-more row i d d below is (divides, dvd_refl d, λ k w h. h)
 
--- the first entries have no common divisor but 1, so the row has none
-pub row_divisor-one : (row : List ℤ) (i g : ℕ) → IsRowGcd (take i row) g → g ≡ 1 → 1 ≡ row_divisor row
-row_divisor-one row i g is one =
-    row_divisor_from row 1 (Divides-one row, λ d w. subst (λ n. d ∣ n) one (is.1 d (Divides-take d i row w)))
+-- the divisor of the row divides that of the first entries
+pub row_divisor-first : (row : List ℤ) (i g : ℕ) → IsRowGcd (take i row) g → row_divisor row ∣ g
+row_divisor-first row i g is = is.1 (row_divisor row) (Divides-take (row_divisor row) i row (row_divisor_is row).0)
+
+-- a common divisor of an entry other than 0 is not 0
+pub above_zero_at : (x : ℤ) (d g : ℕ) → (x ≡ pos 0 → ⊥) → IsGcd (unsigned_abs x) d g → g ≡ 0 → ⊥
+above_zero_at x d g some step none = some (zero_from_size x (eq-zero_of_zero-dvd (subst (λ n. n ∣ unsigned_abs x) none step.0)))
 
 -- all entries are read
 pub row_divisor-all : (row : List ℤ) (i g : ℕ) → IsRowGcd (take i row) g → length row ≤ i → g ≡ row_divisor row

@@ -1,11 +1,9 @@
 // The greatest common divisor of two numbers, and of a row.
-ghost use Rattle.std.specs.Prelude.{◌≡◌, ◌∷◌, [], pos, ◌<ℤ◌, unsigned_abs};
+ghost use Rattle.std.specs.Prelude.{◌≡◌, ◌<◌, ◌^◌, ◌∷◌, [], pos, ◌<ℤ◌, unsigned_abs};
 ghost use Rattle.std.specs.List.{All};
-ghost use Rattle.std.specs.Int.{IsGcd};
+ghost use Rattle.std.specs.Int.{◌∣◌, IsGcd};
 ghost use Rattle.row_definitions.specs.Rows.{row_divisor, divided};
 ghost use Rattle.row_definitions.specs.Combination.{FitsEntry};
-
-use crate::exact::ExactDivisor;
 
 // Euclid's algorithm, at half the width as soon as both numbers fit it.
 pub(crate) fn common_divisor(a: u128, b: u128) -> u128
@@ -37,35 +35,30 @@ fn narrow_divisor(a: u64, b: u64) -> u64
     x
 }
 
-// A divisor that has come down to 1 stays 1, so the rest of the row is not read. One that has divided an entry more than
-// it was made of will mostly divide the others, which is seen without a division.
-pub(crate) fn divisor_of(row: &[i128]) -> u128
+// The greatest common divisor of the row's first entries, up to one, other than 0, that it divides, or up to where it is
+// 1; of all entries where there is no such, so 0 only of zeros. It will mostly divide the rest too, which shows while they
+// are divided.
+pub(crate) fn divisor_of_first(row: &[i128]) -> u128
     requires { All FitsEntry row.now }
-    ensures { result ≡ row_divisor row.now }
+    ensures multiple { row_divisor row.now ∣ result }
+    ensures fits { result < 2 ^ 127 }
+    ensures zeros { result ≡ 0 → row_divisor row.now ≡ 0 }
 {
     let mut divisor = 0;
-    let mut exact: Option<ExactDivisor> = None;
     for x in row {
-        if let Some(tried) = exact
-            && tried.divides(*x)
-        {
+        if *x == 0 {
             continue;
         }
         let lower = common_divisor(x.unsigned_abs(), divisor);
-        if lower == 1 {
-            return 1;
+        if lower == divisor || lower == 1 {
+            return lower;
         }
-        exact = if lower == divisor && divisor > 0 {
-            Some(ExactDivisor::of(divisor))
-        } else {
-            None
-        };
         divisor = lower;
     }
     divisor
 }
 
-// The same of two numbers of which the first is above 0.
+// The greatest common divisor of two numbers of which the first is above 0.
 pub(crate) fn divisor_of_pair(first: i128, second: i128) -> i128
     requires positive { pos 0 <ℤ first }
     requires first_fits { FitsEntry first }

@@ -1,6 +1,6 @@
 // Division of what a number divides, without dividing: modulo 2^128 an odd number has an inverse, so a quotient that is
 // known to be whole is a product (T. Jebelean, "An algorithm for exact division", 1993).
-ghost use Rattle.std.specs.Prelude.{◌≡◌, ℕ, ◌*◌, ◌<◌, ◌^◌, IsTrue, ℤ, pos, ◌+ℤ◌, ◌*ℤ◌, unsigned_abs};
+ghost use Rattle.std.specs.Prelude.{◌≡◌, ℕ, ◌-◌, ◌*◌, ◌/◌, ◌<◌, ◌^◌, ℤ, pos, ◌+ℤ◌, ◌*ℤ◌, ◌<ℤ◌, unsigned_abs, SomeIff};
 ghost use Rattle.std.specs.Int.{◌∣◌, w128, int_wrap};
 ghost use Rattle.row_definitions.specs.Rows.{divided};
 ghost use Rattle.row_definitions.specs.Combination.{FitsEntry};
@@ -9,12 +9,14 @@ ghost use Rattle.fraction_rows.specs.Exact.{HasInverse};
 // A divisor: how often 2 divides it, the inverse of the odd rest modulo 2^128, and the largest quotient by it.
 #[derive(Clone, Copy)]
 pub(crate) struct ExactDivisor {
-    divisor: i128,
+    pub(crate) divisor: i128,
     twos: u32,
     inverse: i128,
     largest: u128,
+    ghost positive: { pos 0 <ℤ divisor },
     ghost few: { twos < 128 },
-    ghost fits: { largest * unsigned_abs divisor < 2 ^ 127 },
+    ghost inverted: { HasInverse (unsigned_abs divisor) twos inverse },
+    ghost whole: { largest ≡ (2 ^ 127 - 1) / unsigned_abs divisor },
 }
 
 impl ExactDivisor {
@@ -22,8 +24,7 @@ impl ExactDivisor {
     pub(crate) fn of(divisor: u128) -> ExactDivisor
         requires positive { 0 < divisor }
         requires fits { divisor < 2 ^ 127 }
-        ensures divisor { unsigned_abs result.divisor ≡ divisor }
-        ensures inverse { HasInverse divisor result.twos result.inverse }
+        ensures { unsigned_abs result.divisor ≡ divisor }
     {
         let twos = divisor.trailing_zeros();
         ExactDivisor {
@@ -34,21 +35,18 @@ impl ExactDivisor {
         }
     }
 
-    // Whether the number is a product with the divisor.
-    pub(crate) fn divides(self, x: i128) -> bool
+    // The quotient, where the divisor divides the number: it is the product then. Where it does not, the product is larger
+    // than any quotient or does not multiply back.
+    pub(crate) fn quotient(self, x: i128) -> Option<i128>
         requires { FitsEntry x }
-        ensures { IsTrue result → unsigned_abs self.divisor ∣ unsigned_abs x }
+        ensures { SomeIff result (unsigned_abs self.divisor ∣ unsigned_abs x) (divided (unsigned_abs self.divisor) x) }
     {
-        let quotient = self.quotient(x);
-        quotient.unsigned_abs() <= self.largest && quotient * self.divisor == x
-    }
-
-    // The quotient of a number that the divisor divides.
-    pub(crate) fn quotient(self, x: i128) -> i128
-        requires { FitsEntry x }
-        ensures { (divisor : ℕ) → HasInverse divisor self.twos self.inverse → divisor ∣ unsigned_abs x → result ≡ divided divisor x }
-    {
-        (x >> self.twos).wrapping_mul(self.inverse)
+        let quotient = (x >> self.twos).wrapping_mul(self.inverse);
+        if quotient.unsigned_abs() <= self.largest && quotient * self.divisor == x {
+            Some(quotient)
+        } else {
+            None
+        }
     }
 }
 

@@ -82,6 +82,22 @@ fn primitive_divides_by_odd_and_even_divisors(rt: HostRuntime) {
 }
 
 #[test]
+fn primitive_divides_where_a_late_entry_lowers_the_divisor(rt: HostRuntime) {
+    // 12 divides all but the last entry, and 2 that too.
+    let mut row = [12, 24, -36, 0, 60, 10];
+    primitive(&mut row);
+    assert_eq!(rt; row, [6, 12, -18, 0, 30, 5]);
+}
+
+#[test]
+fn primitive_leaves_a_row_where_a_late_entry_lowers_the_divisor_to_one(rt: HostRuntime) {
+    // 6 divides all but the last entry, and no number above 1 divides 6 and 7.
+    let mut row = [6, 12, 18, 7];
+    primitive(&mut row);
+    assert_eq!(rt; row, [6, 12, 18, 7]);
+}
+
+#[test]
 fn zeros_stay(rt: HostRuntime) {
     let mut row = [0, 0];
     primitive(&mut row);

@@ -1,38 +1,88 @@
-use Rattle.std.proofs.Common.{◌≡◌, ◌<◌, ◌^◌, ℕ, List, ℤ, pos, map, length, unsigned_abs, get_or, set, ap, subst, ◌∙◌, sym, SFits, to_z, of_z, to_z-of_z, rules}
+use Rattle.std.proofs.Common.{◌≡◌, ℕ, ◌<◌, ◌*ℤ◌, ◌++◌, List, ℤ, pos, map, length, take, drop, unsigned_abs, set, All, ap, ap₂, subst, subst₂, ◌∙◌, sym, SFits, to_z, of_z, to_z-of_z, rules}
 use Rattle.std.specs.Int.{◌∣◌, w128}
-use Rattle.std.proofs.lemmas.List.{length-map}
+use Rattle.std.proofs.lemmas.List.{length-map, take-map, take_all, take-append-drop}
+use Rattle.std.proofs.lemmas.List.Elements.{All-take}
+use Rattle.std.proofs.lemmas.Nat.Gcd.{dvd-zero}
 use Rattle.row_definitions.specs.Rows.{entry, divided}
+use Rattle.row_definitions.specs.Combination.{FitsEntry}
+use Rattle.row_definitions.proofs.Numbers.{divided-zero}
+use Rattle.row_definitions.proofs.Divisors.{Divides, All-from_Divides}
 use Rattle.row_definitions.proofs.Combinations.{entry-divided}
-use Rattle.fraction_rows.proofs.Written.{written, set-written, entry-written, written-all}
+use Rattle.fraction_rows.proofs.Written.{written, set-written, kept-written, entry-written, take-written, drop-written}
+use Rattle.fraction_rows.proofs.Scan.{Divides-more}
+use Rattle.fraction_rows.proofs.Quotients.{undivided, FitsEntry-undivided}
 use Rattle.fraction_rows.proofs.division.divide.Goals as goal
 
--- the next entry is still that of the row as it was
+-- the next entry is still that of the row as it was, and the entries before it are quotients
 module _ (d : ℕ) (old row : List ℤ) (i : ℕ) (so_far : row ≡ written (map (divided d) old) old i) (within : i < length old) where
-  next : SFits w128 (get_or row i (pos 0)) → to_z w128 (of_z w128 (get_or row i (pos 0))) ≡ entry old i
-  next fits = to_z-of_z fits ∙ ap (λ r. entry r i) so_far ∙ entry-written (map (divided d) old) old i (length-map old (divided d)) within
+  same : entry row i ≡ entry old i
+  same = ap (λ r. entry r i) so_far ∙ entry-written (map (divided d) old) old i (length-map old (divided d)) within
+
+  next : SFits w128 (entry row i) → to_z w128 (of_z w128 (entry row i)) ≡ entry old i
+  next fits = to_z-of_z fits ∙ same
+
+  front : take i row ≡ map (divided d) (take i old)
+  front = ap (take i) so_far ∙ take-written (map (divided d) old) old i (length-map old (divided d)) within ∙ take-map (divided d) i old
+
+  back : drop i row ≡ drop i old
+  back = ap (drop i) so_far ∙ drop-written (map (divided d) old) old i (length-map old (divided d)) within
+
+pub loop-column-preserved-then-entry-eq0 : goal.loop-column-preserved-then-entry-eq0
+loop-column-preserved-then-entry-eq0 c =
+    let i = c.loop-column.column in
+    let d = unsigned_abs c.args.divisor.divisor in
+    let old = c.args.row.now in
+    let x_fits : SFits w128 (entry c.loop-column.row i) = search rules in
+    let zero_there : entry old i ≡ pos 0 = sym (next d old c.loop-column.row i c.loop-column.invariant.so_far c.loop-column-test.true x_fits) ∙ ap (to_z w128) c.if-entry-eq0.true in
+    record {
+      so_far = c.loop-column.invariant.so_far ∙ kept-written (map (divided d) old) old i (length-map old (divided d)) c.loop-column-test.true (zero_there ∙ sym (entry-divided d old i ∙ ap (divided d) zero_there ∙ divided-zero d));
+      divides = Divides-more d old i c.loop-column-test.true c.loop-column.invariant.divides (subst (λ z. d ∣ unsigned_abs z) (sym zero_there) (dvd-zero d));
+    }
 
 pub quotient-requires : goal.quotient-requires
 quotient-requires c =
-    let i = c.loop-x.x-index in
-    let x_fits : SFits w128 (get_or c.loop-x.row i (pos 0)) = search rules in
-    subst (λ z. unsigned_abs z < 2 ^ 127) (sym (next c.args.divisor c.args.row.now c.loop-x.row i c.loop-x.invariant c.loop-x-test.true x_fits)) (c.requires.entries i (pos 0) c.loop-x-test.true)
+    let i = c.loop-column.column in
+    let x_fits : SFits w128 (entry c.loop-column.row i) = search rules in
+    subst FitsEntry (sym (next (unsigned_abs c.args.divisor.divisor) c.args.row.now c.loop-column.row i c.loop-column.invariant.so_far c.loop-column-test.true x_fits)) (c.requires i (pos 0) c.loop-column-test.true)
 
-pub loop-x-preserved : goal.loop-x-preserved
-loop-x-preserved c =
-    let i = c.loop-x.x-index in
-    let d = c.args.divisor in
+pub multiply-requires : goal.multiply-requires
+multiply-requires c =
+    let i = c.loop-column.column in
+    let factor = c.args.divisor.divisor in
+    let d = unsigned_abs factor in
+    let old = c.args.row.now in
+    let factor_fits : SFits w128 factor = search rules in
+    subst₂ (λ z r. All (λ x. FitsEntry (x *ℤ z)) r) (sym (to_z-of_z factor_fits)) (sym (front d old c.loop-column.row i c.loop-column.invariant.so_far c.loop-column-test.true))
+    (FitsEntry-undivided factor (take i old) c.args.divisor.positive c.loop-column.invariant.divides (All-take FitsEntry i old c.requires))
+
+pub returns-in-None-clause-unchanged : goal.returns-in-None-clause-unchanged
+returns-in-None-clause-unchanged c =
+    let i = c.loop-column.column in
+    let factor = c.args.divisor.divisor in
+    let d = unsigned_abs factor in
+    let old = c.args.row.now in
+    let factor_fits : SFits w128 factor = search rules in
+    let first = c.multiply.ensures ∙ ap₂ (λ z r. map (λ x. x *ℤ z) r) (to_z-of_z factor_fits) (front d old c.loop-column.row i c.loop-column.invariant.so_far c.loop-column-test.true)
+    ∙ undivided factor (take i old) c.args.divisor.positive c.loop-column.invariant.divides in
+    ap₂ (λ p q. p ++ q) first (back d old c.loop-column.row i c.loop-column.invariant.so_far c.loop-column-test.true) ∙ take-append-drop i old
+
+pub loop-column-preserved : goal.loop-column-preserved
+loop-column-preserved c =
+    let i = c.loop-column.column in
+    let d = unsigned_abs c.args.divisor.divisor in
     let old = c.args.row.now in
     let new = map (divided d) old in
-    let x_fits : SFits w128 (get_or c.loop-x.row i (pos 0)) = search rules in
-    let y_fits : SFits w128 c.quotient.result = search rules in
-    let x_is = next d old c.loop-x.row i c.loop-x.invariant c.loop-x-test.true x_fits in
-    let divides = subst (λ z. d ∣ unsigned_abs z) (sym x_is) (c.requires.divides i (pos 0) c.loop-x-test.true) in
-    let y_is = to_z-of_z y_fits ∙ c.quotient.ensures d c.of-divisor.ensures.inverse divides ∙ ap (divided d) x_is ∙ sym (entry-divided d old i) in
-    ap (λ row. set row i (to_z w128 (of_z w128 c.quotient.result))) c.loop-x.invariant
-    ∙ set-written new old i _ (length-map old (divided d)) c.loop-x-test.true y_is
+    let x_fits : SFits w128 (entry c.loop-column.row i) = search rules in
+    let y_fits : SFits w128 c.in-Some.quotient = search rules in
+    let x_is = next d old c.loop-column.row i c.loop-column.invariant.so_far c.loop-column-test.true x_fits in
+    let y_is = to_z-of_z y_fits ∙ c.in-Some.ensures.1 ∙ ap (divided d) x_is ∙ sym (entry-divided d old i) in
+    record {
+      so_far = ap (λ row. set row i (to_z w128 (of_z w128 c.in-Some.quotient))) c.loop-column.invariant.so_far ∙ set-written new old i _ (length-map old (divided d)) c.loop-column-test.true y_is;
+      divides = Divides-more d old i c.loop-column-test.true c.loop-column.invariant.divides (subst (λ z. d ∣ unsigned_abs z) x_is c.in-Some.ensures.0);
+    }
 
-pub returns : goal.returns
-returns c =
-    let d = c.args.divisor in
+pub returns-clause-divides : goal.returns-clause-divides
+returns-clause-divides c =
+    let d = unsigned_abs c.args.divisor.divisor in
     let old = c.args.row.now in
-    c.loop-x.invariant ∙ written-all (map (divided d) old) old c.loop-x.x-index (length-map old (divided d)) c.loop-x-test.false
+    All-from_Divides d old (subst (Divides d) (take_all c.loop-column.column old c.loop-column-test.false) c.loop-column.invariant.divides)

@@ -1,29 +1,44 @@
-use Rattle.std.proofs.Common.{◌<◌, ◌^◌, map, unsigned_abs, All, ap, subst, sym, ◌∙◌, arith}
-use Rattle.std.specs.Int.{◌∣◌}
-use Rattle.row_definitions.specs.Rows.{row_divisor, divided}
+use Rattle.std.proofs.Common.{◌<◌, unsigned_abs, All, ap, subst, sym, ◌∙◌, arith, SFits, to_z-of_z, rules}
+use Rattle.std.specs.Int.{w128}
 use Rattle.row_definitions.specs.Combination.{FitsEntry}
-use Rattle.row_definitions.proofs.Divisors.{row_divisor_is, All-from_Divides}
-use Rattle.row_definitions.proofs.Primitives.{primitive_row-undivided, FitsEntry-primitive_row}
-use Rattle.fraction_rows.proofs.Scan.{row_divisor-lt}
+use Rattle.row_definitions.proofs.Primitives.{FitsEntry-primitive_row}
+use Rattle.fraction_rows.proofs.Quotients.{primitive-from_quotients, multiple-lowered, lowered, lowered-some, primitive-undivided}
 use Rattle.fraction_rows.proofs.division.primitive.Goals as goal
 
-pub divide-requires : goal.divide-requires
-divide-requires c =
-    let row = c.args.row.now in
-    record {
-      positive = omega arith;
-      fits = subst (λ n. n < 2 ^ 127) (sym c.divisor_of-divisor.ensures) (row_divisor-lt row c.requires);
-      divides = subst (λ n. All (λ x. n ∣ unsigned_abs x) row) (sym c.divisor_of-divisor.ensures) (All-from_Divides (row_divisor row) row (row_divisor_is row).0);
-      entries = c.requires;
-    }
+pub returns-in-Ok-clause-value : goal.returns-in-Ok-clause-value
+returns-in-Ok-clause-value c =
+    primitive-from_quotients c.args.row.now c.loop-divisor.row _ (unsigned_abs c.of.result.divisor) c.loop-divisor.divisor c.loop-divisor.invariant.same c.loop-divisor.invariant.multiple c.of.ensures
+    c.in-Ok.ensures.divides c.in-Ok.ensures.value
 
-pub returns-then-divisor-gt1-clause-value : goal.returns-then-divisor-gt1-clause-value
-returns-then-divisor-gt1-clause-value c = c.divide.ensures ∙ ap (λ n. map (divided n) c.args.row.now) c.divisor_of-divisor.ensures
-
-pub returns-then-divisor-gt1-clause-fits : goal.returns-then-divisor-gt1-clause-fits
-returns-then-divisor-gt1-clause-fits c =
-    let value = c.divide.ensures ∙ ap (λ n. map (divided n) c.args.row.now) c.divisor_of-divisor.ensures in
+pub returns-in-Ok-clause-fits : goal.returns-in-Ok-clause-fits
+returns-in-Ok-clause-fits c =
+    let value =
+    primitive-from_quotients c.args.row.now c.loop-divisor.row _ (unsigned_abs c.of.result.divisor) c.loop-divisor.divisor c.loop-divisor.invariant.same c.loop-divisor.invariant.multiple c.of.ensures
+    c.in-Ok.ensures.divides c.in-Ok.ensures.value in
     subst (All FitsEntry) (sym value) (FitsEntry-primitive_row c.args.row.now c.requires)
 
-pub returns-else-divisor-gt1-clause-value : goal.returns-else-divisor-gt1-clause-value
-returns-else-divisor-gt1-clause-value c = sym (primitive_row-undivided c.args.row.now (omega arith))
+pub loop-divisor-smaller : goal.loop-divisor-smaller
+loop-divisor-smaller c =
+    let x = c.in-Err.entry in
+    let x_fits : SFits w128 x = search rules in
+    let size = c.unsigned_abs.ensures.value ∙ ap unsigned_abs (to_z-of_z x_fits) in
+    lowered x (unsigned_abs c.of.result.divisor) c.unsigned_abs.result c.loop-divisor.divisor c.common_divisor-divisor.result c.loop-divisor-test.true c.of.ensures c.in-Err.ensures.not_divided size c.common_divisor-divisor.ensures
+
+pub loop-divisor-preserved : goal.loop-divisor-preserved
+loop-divisor-preserved c =
+    let x = c.in-Err.entry in
+    let d = c.loop-divisor.divisor in
+    let g = c.common_divisor-divisor.result in
+    let x_fits : SFits w128 x = search rules in
+    let size = c.unsigned_abs.ensures.value ∙ ap unsigned_abs (to_z-of_z x_fits) in
+    let less : g < d = lowered x (unsigned_abs c.of.result.divisor) c.unsigned_abs.result d g c.loop-divisor-test.true c.of.ensures c.in-Err.ensures.not_divided size c.common_divisor-divisor.ensures in
+    record {
+      same = c.in-Err.ensures.unchanged ∙ c.loop-divisor.invariant.same;
+      multiple = multiple-lowered c.args.row.now c.loop-divisor.row x c.unsigned_abs.result d g c.loop-divisor.invariant.same c.loop-divisor.invariant.multiple c.in-Err.ensures.entry size c.common_divisor-divisor.ensures;
+      fits = omega (arith, less, c.loop-divisor.invariant.fits);
+      zeros = λ none. absurd (lowered-some c.unsigned_abs.result d g c.loop-divisor-test.true c.common_divisor-divisor.ensures none);
+    }
+
+pub returns-clause-value : goal.returns-clause-value
+returns-clause-value c =
+    primitive-undivided c.args.row.now c.loop-divisor.row c.loop-divisor.divisor c.loop-divisor.invariant.same c.loop-divisor.invariant.multiple c.loop-divisor.invariant.zeros (omega arith)

@@ -1,9 +1,11 @@
-use Rattle.std.proofs.Common.{subst, ◌≡◌, ℕ, ◌*◌, ◌+◌, ◌-◌, ◌/◌, ◌^◌, ◌<◌, pos, ◌*ℤ◌, ap, sym, ◌∙◌, arith, SFits, unsigned_abs, to_z, to_z-of_z, rules, div-le_self, lt_of_le_of_lt}
+use Rattle.std.proofs.Common.{subst, ◌≡◌, ℕ, ◌*◌, ◌+◌, ◌-◌, ◌/◌, ◌^◌, ◌<◌, pos, ◌*ℤ◌, ◌<ℤ◌, ap, sym, ◌∙◌, arith, SFits, unsigned_abs, of_z, to_z, to_z-of_z, rules, div-le_self, lt_of_le_of_lt}
 use Rattle.std.specs.Int.{w128, int_wrap}
 use Rattle.std.proofs.lemmas.Int.{to_z_pos}
-use Rattle.std.proofs.Math.Nat.{mul-div_cancel_left, div-mul-le_self}
+use Rattle.std.proofs.Math.Nat.{mul-div_cancel_left}
 use lib.Count.{count_trailing_zeros}
 use lib.Pow.{pow_pos}
+use Rattle.row_definitions.proofs.Numbers.{above_zero}
+use Rattle.fraction_rows.specs.Exact.{HasInverse}
 use Rattle.fraction_rows.proofs.Inverses.{odd_part}
 use Rattle.fraction_rows.proofs.exact.ExactDivisor.of.Goals as goal
 
@@ -32,21 +34,22 @@ inverse_of-requires c =
     let n = c.args.divisor in
     (pos (part n c.requires.positive c.requires.fits).0, signed n c.requires.positive c.requires.fits ∙ ap pos (odd_is n c.requires.positive c.requires.fits))
 
-pub returns-clause-divisor : goal.returns-clause-divisor
-returns-clause-divisor c = ap unsigned_abs (to_z_pos w128 c.args.divisor c.requires.fits)
+pub returns : goal.returns
+returns c = ap unsigned_abs (to_z_pos w128 c.args.divisor c.requires.fits)
 
-pub invariant_of-result-clause-fits : goal.invariant_of-result-clause-fits
-invariant_of-result-clause-fits c =
-    let n = c.args.divisor in
-    subst (λ m. (2 ^ 127 - 1) / n * m < 2 ^ 127) (sym (ap unsigned_abs (to_z_pos w128 n c.requires.fits))) (omega (arith, div-mul-le_self (2 ^ 127 - 1) n))
+pub invariant_of-result-clause-positive : goal.invariant_of-result-clause-positive
+invariant_of-result-clause-positive c =
+    subst (λ z. pos 0 <ℤ z) (sym (to_z_pos w128 c.args.divisor c.requires.fits)) (above_zero c.args.divisor c.requires.positive)
 
-pub returns-clause-inverse : goal.returns-clause-inverse
+pub invariant_of-result-clause-inverted : goal.invariant_of-result-clause-inverted
 unfolding power
-returns-clause-inverse c =
+invariant_of-result-clause-inverted c =
     let n = c.args.divisor in
     let inverse_fits : SFits w128 c.inverse_of.result = search rules in
-    record {
-      odd = n / power n;
+    subst (λ m. HasInverse m (count_trailing_zeros 128 n) (to_z w128 (of_z w128 c.inverse_of.result))) (sym (ap unsigned_abs (to_z_pos w128 n c.requires.fits))) (record {
       is = whole n c.requires.positive c.requires.fits;
       unit = ap (λ z. int_wrap w128 (pos (n / power n) *ℤ z)) (to_z-of_z inverse_fits) ∙ ap (λ z. int_wrap w128 (z *ℤ c.inverse_of.result)) (sym (signed n c.requires.positive c.requires.fits)) ∙ c.inverse_of.ensures;
-    }
+    })
+
+pub invariant_of-result-clause-whole : goal.invariant_of-result-clause-whole
+invariant_of-result-clause-whole c = ap (λ m. (2 ^ 127 - 1) / m) (sym (ap unsigned_abs (to_z_pos w128 c.args.divisor c.requires.fits)))
