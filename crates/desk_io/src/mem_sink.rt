@@ -1,4 +1,4 @@
-// A sink in memory.
+//! A sink in memory.
 ghost use Rattle.std.specs.Prelude.{◌≡◌, ◌↔◌, ◌⊎◌, ◌<◌, ◌≤◌, ◌^◌, ◌+◌, ◌++◌, [], Some, length, take, min, if◌then◌else◌, is_err, Contains, IfOk, IsErr, OnErr};
 ghost use Rattle.desk_io.specs.Faults.{raised};
 

@@ -12,6 +12,7 @@ pub(crate) const SLOTS: usize = 24;
 /// home win, the draw and the away win. So the slots are in the order of a sheet.
 #[derive(Drop)]
 pub(crate) struct Slots {
+    /// The offer in each slot, and none where nothing stands.
     pub(crate) offers: [Option<Offer>; SLOTS],
 }
 

@@ -11,7 +11,9 @@ use std::cmp::Ordering;
 // A pivot's row and column.
 #[derive(Clone, Copy)]
 pub(crate) struct Choice {
+    /// The row that leaves, from 0 on.
     pub(crate) row: u32,
+    /// The column that enters, from 0 on.
     pub(crate) column: u32,
 }
 

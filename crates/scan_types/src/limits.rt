@@ -1,4 +1,4 @@
-// The largest sizes.
+//! The largest sizes.
 
 /// Bytes of a book's or a match's name.
 pub const MOST_NAME_BYTES: usize = 32;

@@ -18,6 +18,7 @@ pub const MOST_PASSES: u16 = 256;
 /// The lock, with the state in it. Threads share it by reference, each with a pass of its own.
 #[derive(Drop)]
 pub struct TurnLock<S: Kept> {
+    /// Three words, and one slot for the state.
     pub(crate) table: LockTable<S>,
     ghost words: { table.shared.table_id.words ≡ 3 },
     ghost slots: { table.shared.table_id.slots ≡ 1 },
