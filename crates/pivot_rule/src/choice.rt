@@ -23,13 +23,11 @@ pub(crate) fn choose(tableau: &Tableau) -> Option<Choice>
     ensures some { IfSome result (λ choice. IsChoice tableau.now choice.row choice.column) }
     ensures none { IfNone result (IsBest tableau.now) }
 {
-    match entering(tableau) {
-        Some(column) => Some(Choice {
-            row: leaving(tableau, column),
-            column,
-        }),
-        None => None,
-    }
+    let column = entering(tableau)?;
+    Some(Choice {
+        row: leaving(tableau, column),
+        column,
+    })
 }
 
 // The lowest column with a positive entry in the objective row.
