@@ -108,7 +108,8 @@ impl Sink for MemSink {
         }
         let count = buf.len().min(self.piece).min(self.room);
         // `new` reserved the room.
-        self.bytes.extend_from_slice(&buf[..count]).unwrap();
+        let extended = self.bytes.extend_from_slice(&buf[..count]);
+        prove!(extended.is_ok());
         self.room -= count;
         Ok(count)
     }

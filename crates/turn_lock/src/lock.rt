@@ -39,7 +39,8 @@ impl<S: Kept> TurnLock<S> {
     {
         let about = Snapshot::of(&state);
         let mut slots = Vec::with_capacity(alloc, 1)?;
-        slots.push(Some(state))?;
+        let pushed = slots.push(Some(state));
+        prove!(pushed.is_ok());
         match Table::new(alloc, &[0, 0, 0], slots, &about) {
             Ok((table, seat)) => Ok((
                 TurnLock { table },
