@@ -1,4 +1,4 @@
-// The real outside: files of std, and standard output. Nothing is told of their bytes.
+//! The real outside: files of std, and standard output. Nothing is told of their bytes.
 ghost use Rattle.std.specs.Prelude.{◌≡◌, ◌≤◌, None, []};
 ghost use Rattle.std.proofs.Math.Nat.{le_refl, le_trans};
 

@@ -1,12 +1,15 @@
-// The calls of an object in memory, of which some fail on purpose.
+//! The calls of an object in memory, of which some fail on purpose.
 ghost use Rattle.std.specs.Prelude.{◌≡◌, ◌↔◌, ◌<◌, ◌^◌, Contains, IsTrue};
 ghost use Rattle.desk_io.specs.Faults.{raised};
 
 /// Which calls fail, by their numbers from 1 on, and how many calls and faults there were.
 #[derive(Drop)]
 pub(crate) struct FailingCalls {
+    /// The numbers, from 1 on, of the calls that fail.
     pub(crate) failing: Vec<u32>,
+    /// How many calls were made. It stands still at `u64::MAX`.
     pub(crate) made: u64,
+    /// How many of them failed. It stands still at `u64::MAX`.
     pub(crate) faults: u64,
     ghost faults_fit: { faults < 2 ^ 64 },
 }

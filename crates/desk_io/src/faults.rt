@@ -1,4 +1,4 @@
-// What the calls of the traits answer where they do not succeed.
+//! What the calls of the traits answer where they do not succeed.
 
 /// A read failed.
 #[derive(Clone, Copy, Debug, PartialEq, Eq)]

@@ -1,4 +1,4 @@
-// A file in memory.
+//! A file in memory.
 ghost use Rattle.std.specs.Prelude.{◌≡◌, ◌≤◌, string_bytes};
 ghost use Rattle.desk_io.specs.MemOpener.{unread};
 
@@ -50,6 +50,7 @@ impl MemFile {
         }
     }
 
+    /// The name of the file.
     pub(crate) fn name(&self) -> &str
         ensures { result.now ≡ self.now.name }
     {

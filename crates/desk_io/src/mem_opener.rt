@@ -1,4 +1,4 @@
-// Files in memory and their opener.
+//! Files in memory and their opener.
 ghost use Rattle.std.specs.Prelude.{◌≡◌, ◌≢◌, ◌↔◌, ◌⊎◌, ◌<◌, ◌≤◌, ◌^◌, [], Some, List, ℕ, position, if◌then◌else◌, is_err, Contains, IfOk, IsErr, IsErrOf, OnOk, OnErr};
 ghost use Rattle.std.specs.Str.{bytes_eq};
 ghost use Rattle.desk_io.specs.Faults.{raised};

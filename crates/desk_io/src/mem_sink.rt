@@ -1,4 +1,4 @@
-// A sink in memory.
+//! A sink in memory.
 ghost use Rattle.std.specs.Prelude.{◌≡◌, ◌↔◌, ◌⊎◌, ◌<◌, ◌≤◌, ◌^◌, ◌+◌, ◌++◌, [], Some, length, take, min, if◌then◌else◌, is_err, Contains, IfOk, IsErr, OnErr};
 ghost use Rattle.desk_io.specs.Faults.{raised};
 
@@ -108,7 +108,8 @@ impl Sink for MemSink {
         }
         let count = buf.len().min(self.piece).min(self.room);
         // `new` reserved the room.
-        self.bytes.extend_from_slice(&buf[..count]).unwrap();
+        let extended = self.bytes.extend_from_slice(&buf[..count]);
+        prove!(extended.is_ok());
         self.room -= count;
         Ok(count)
     }

@@ -1,4 +1,4 @@
-// A source in memory.
+//! A source in memory.
 ghost use Rattle.std.specs.Prelude.{◌≡◌, ◌↔◌, ◌<◌, ◌≤◌, ◌^◌, ◌++◌, [], Some, length, take, min, if◌then◌else◌, is_err, Contains, IfOk, IsOk, IsErr, OnErr};
 ghost use Rattle.desk_io.specs.Faults.{raised};
 ghost use Rattle.std.proofs.Common.{◌∙◌};

@@ -1,4 +1,4 @@
-// What opens feeds.
+//! What opens feeds.
 ghost use Rattle.std.specs.Prelude.{◌≡◌, ◌<◌, ◌≤◌, ◌^◌, ℕ, IfOk, IsErrOf, OnOk, OnErr};
 ghost use Rattle.desk_io.specs.Faults.{Rose};
 ghost use Rattle.desk_io.specs.Opener.{Told, OpensFirst, SameUnderOthers, SameUnderAll};

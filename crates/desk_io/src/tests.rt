@@ -1,4 +1,4 @@
-// Reads, writes and openings by their numbers, and the real outside. Expected values are counted by hand.
+//! Reads, writes and openings by their numbers, and the real outside. Expected values are counted by hand.
 ghost use Rattle.std.specs.Prelude.{◌≡◌, ◌<◌, ◌≤◌, length, IfSome};
 
 use super::*;

@@ -14,7 +14,10 @@ pub enum Change {
 pub struct Accepted {
     /// The number of the line, from 2: line 1 is the header.
     pub line: u32,
+    /// The match that it names.
     pub match_name: Name,
+    /// The bet on the match that it names.
     pub selection: Selection,
+    /// What it does to the offer of the book on that bet.
     pub change: Change,
 }

@@ -1,4 +1,4 @@
-// The fields of a line, and other parts of a text between separators.
+//! The fields of a line, and other parts of a text between separators.
 ghost use Rattle.std.specs.Prelude.{◌≡◌, ◌≢◌, [], ◌∷◌, ◌==◌, length, MatchOption};
 ghost use Rattle.std.specs.List.{slice_split, position};
 ghost use Rattle.std.specs.Str.{bytes_eq};

@@ -13,7 +13,7 @@
 
 mod fields;
 mod limit_text;
-pub mod limits;
+mod limits;
 mod match_names;
 mod number_text;
 mod odds_text;

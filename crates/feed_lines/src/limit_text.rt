@@ -1,4 +1,4 @@
-// Stake limits as a feed writes them.
+//! Stake limits as a feed writes them.
 ghost use Rattle.std.specs.Prelude.{◌≡◌, ◌≤◌, IfSome};
 ghost use Rattle.feed_definitions.specs.Numbers.{limit_of};
 

@@ -1,4 +1,4 @@
-// The largest sizes.
+//! The largest sizes.
 
 /// Bytes of a line before its line feed. A longer one is not plain however it goes on, so no read follows it.
 pub const MOST_LINE_BYTES: usize = 200;

@@ -1,4 +1,4 @@
-// The matches that a feed has quoted so far.
+//! The matches that a feed has quoted so far.
 ghost use Rattle.std.specs.Prelude.{◌≡◌, ◌≤◌, [], ◌∷◌, ◌++◌, ◌||◌, if◌then◌else◌, nat_lt, length, vec_capacity, OnOk};
 ghost use Rattle.std.specs.List.{list_any};
 ghost use Rattle.std.specs.Str.{bytes_eq};
@@ -10,6 +10,7 @@ use std::alloc::Global;
 /// Match names, each once, in the order of their first quotes.
 #[derive(Drop)]
 pub struct MatchNames {
+    /// At most 256 names.
     pub names: Vec<Name>,
 }
 

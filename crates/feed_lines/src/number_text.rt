@@ -1,4 +1,4 @@
-// Decimal numbers of a few digits.
+//! Decimal numbers of a few digits.
 ghost use Rattle.std.specs.Prelude.{◌≡◌, ◌<◌, ◌≤◌, ◌^◌, IfSome};
 ghost use Rattle.feed_definitions.specs.Numbers.{number_of};
 

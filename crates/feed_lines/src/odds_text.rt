@@ -1,4 +1,4 @@
-// Decimal odds as a feed writes them.
+//! Decimal odds as a feed writes them.
 ghost use Rattle.std.specs.Prelude.{◌≡◌, ◌-◌, ◌*◌, ◌^◌, ◌<◌, length, option_map, IfSome};
 ghost use Rattle.feed_definitions.specs.Numbers.{number_of, odds_of, thousandths_of_parts, is_point};
 ghost use Rattle.std.specs.List.{slice_split};

@@ -1,4 +1,4 @@
-// The lines of the plain feed text, each by itself.
+//! The lines of the plain feed text, each by itself.
 ghost use Rattle.std.specs.Prelude.{◌≡◌, option_map, IfSome};
 ghost use Rattle.feed_definitions.specs.Plain.{book_of, quote_of, side_of};
 ghost use Rattle.feed_definitions.specs.Views.{line_text, IsResultQuote, IsResult};

@@ -1,4 +1,4 @@
-// The bytes taken from a source.
+//! The bytes taken from a source.
 ghost use Rattle.std.specs.Prelude.{◌≡◌, ◌+◌, ◌-◌, ◌*◌, ◌<◌, ◌≤◌, [], true, length, take, drop, vec_len, vec_capacity, MatchOption, IfOk, IsOk, OnOk, OnErr};
 ghost use Rattle.std.specs.Io.KnownBytes.{Consumes, Keeps, IsAtEnd};
 ghost use Rattle.feed_definitions.specs.Lines.{pieces};
@@ -14,7 +14,9 @@ use std::alloc::Global;
 /// The bytes taken, and where the next line starts.
 #[derive(Drop)]
 pub struct Taken {
+    /// The bytes in their order, at most 4,198,400.
     pub bytes: Vec<u8>,
+    /// The index in `bytes` at which the next line starts.
     pub start: usize,
     ghost start_within: { start ≤ vec_len bytes },
 }

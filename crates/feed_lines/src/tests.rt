@@ -1,4 +1,4 @@
-// The expected steps are those that the form of a feed gives by hand.
+//! The expected steps are those that the form of a feed gives by hand.
 use crate::{Accepted, Change, FeedReader, Header, Step};
 use desk_io::{MemSource, Source};
 use scan_types::{Name, Odds, Selection, VoidRule};

@@ -29,6 +29,7 @@ use Rattle.report_definitions.specs.Standing.{FeedPart, feed_part, quoted, stand
 use Rattle.report_definitions.specs.Report.{AreMatchesOf}
 use Rattle.result_verdict.specs.Findings.{IsFirstFinding, IsRightFirst}
 use Rattle.match_sheets.specs.declared.slots.Slots.{Slots}
+use Rattle.match_sheets.specs.declared.slots.TheConstants.{SLOTS}
 use Rattle.match_sheets.specs.Plain.{ArePlain, IsPlainFeed}
 use Rattle.match_sheets.specs.Slots.{slot_of, IsInPlace, ArePlaced, AreOffersOf, IsPartOf}
 use Rattle.match_sheets.specs.Board.{lines_of, standing_at, is_about_number, IsStanding, IsSlot, AreSlots, IsNamed, IsEntry, IsBoard}
@@ -78,7 +79,7 @@ stands_from_slots : (feeds : List FeedPart) (name : List ℕ) → All IsPlainPar
 stands_from_slots feeds name plain slots h offer at =
     by (slice_get feeds offer.feed) refl
   where
-    within : slot_of offer < 24
+    within : slot_of offer < SLOTS
     within =
         let long = h.long in
         elim (cases_lt (slot_of offer) (length slots)) [

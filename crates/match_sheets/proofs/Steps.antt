@@ -17,6 +17,7 @@ use Rattle.scan_types.specs.Selections.{selection_number}
 use Rattle.feed_definitions.specs.Plain.{LineText, Quote, is_quote_change}
 use Rattle.report_definitions.specs.Standing.{quoted}
 use Rattle.match_sheets.specs.declared.slots.Slots.{Slots}
+use Rattle.match_sheets.specs.declared.slots.TheConstants.{SLOTS}
 use Rattle.match_sheets.specs.Slots.{slot_of}
 use Rattle.match_sheets.specs.Board.{standing_at, is_about_number, IsNamed, IsSlot, AreSlots, IsEntry, IsBoard, with_offer}
 use Rattle.match_sheets.proofs.Lines.{standing_at-push, IsNamed-from_standing}
@@ -115,11 +116,11 @@ standing_none lines name h k number = by (standing_at (lines k) name number) ref
     by None e = e
     by (Some v) e = absurd (h (IsNamed-from_standing lines name k number v e))
 
-slots_blank : (lines : ℕ → List LineText) (name : List ℕ) → ¬ (IsNamed lines name) → AreSlots lines name (replicate 24 None)
+slots_blank : (lines : ℕ → List LineText) (name : List ℕ) → ¬ (IsNamed lines name) → AreSlots lines name (replicate SLOTS None)
 slots_blank lines name h =
     record {
-      long = let none : Option Offer = None in length-replicate 24 none;
-      each = λ k number hk hn. subst (λ o. IsSlot (lines k) name k number o) (sym (get_or-replicate 24 (3 * k + number) None None (omega arith))) (standing_none lines name h k number);
+      long = let none : Option Offer = None in length-replicate SLOTS none;
+      each = λ k number hk hn. subst (λ o. IsSlot (lines k) name k number o) (sym (get_or-replicate SLOTS (3 * k + number) None None (omega arith))) (standing_none lines name h k number);
     }
 
 slots_put : (before after : ℕ → List LineText) (i : ℕ) (line : LineText) (offer : Offer) → GoesOn before after i line → Quotes line i offer → i < 8
@@ -157,7 +158,7 @@ slots_put before after i line offer g q few slots h =
 entry_put : (before after : ℕ → List LineText) (i : ℕ) (line : LineText) (offer : Offer) → GoesOn before after i line → Quotes line i offer → i < 8
     → (o : Option Slots) → IsEntry before line.match_name o → IsEntry after line.match_name (Some (with_offer o offer))
 entry_put before after i line offer g q few None h =
-    (named_new before after i line offer g q, slots_put before after i line offer g q few (replicate 24 None) (slots_blank before line.match_name h))
+    (named_new before after i line offer g q, slots_put before after i line offer g q few (replicate SLOTS None) (slots_blank before line.match_name h))
 entry_put before after i line offer g q few (Some slots) h =
     (named_new before after i line offer g q, slots_put before after i line offer g q few slots.offers h.1)
 

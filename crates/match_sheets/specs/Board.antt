@@ -11,6 +11,7 @@ use Rattle.scan_types.specs.Selections.{selection_number}
 use Rattle.feed_definitions.specs.Plain.{LineText, is_quote}
 use Rattle.report_definitions.specs.Standing.{FeedPart, quoted}
 use Rattle.match_sheets.specs.declared.slots.Slots.{Slots}
+use Rattle.match_sheets.specs.declared.slots.TheConstants.{SLOTS}
 use Rattle.match_sheets.specs.Slots.{slot_of}
 
 -- the accepted lines of a feed, and none beyond the last feed
@@ -44,7 +45,7 @@ IsSlot lines match_name k number slot =
 
 -- each slot has what stands
 pub record AreSlots (lines : ℕ → List LineText) (match_name : List ℕ) (slots : List (Option Offer)) : Type 0 where
-  pub long : length slots ≡ 24
+  pub long : length slots ≡ SLOTS
   pub each : (k number : ℕ) → k < 8 → number < 3 →
       IsSlot (lines k) match_name k number (slice_index_or slots (3 * k + number) None)
 
@@ -72,7 +73,7 @@ IsBoard lines board = (match_name : List ℕ) → IsEntry lines match_name (on_b
 -- the slots, or new ones, with one more offer
 abbrev pub with_offer : Option Slots → Offer → Slots
 with_offer slots offer =
-    record { offers = slice_set (option_map_or (λ s. s.offers) slots (replicate 24 None)) (slot_of offer) (Some offer) }
+    record { offers = slice_set (option_map_or (λ s. s.offers) slots (replicate SLOTS None)) (slot_of offer) (Some offer) }
 
 -- the offer stands on the match, in its slot, and all else is as before
 abbrev pub PutsOffer : List ℕ → Offer → BTreeMap (List ℕ) Slots → BTreeMap (List ℕ) Slots → Type 0

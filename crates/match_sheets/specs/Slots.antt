@@ -8,6 +8,7 @@ use Rattle.scan_types.specs.Sheets.{IsSheet}
 use Rattle.result_verdict.specs.Findings.{IsFirstFinding, IsRightFirst}
 use Rattle.report_definitions.specs.declared.match_part.MatchPart.{MatchPart}
 use Rattle.match_sheets.specs.declared.slots.Slots.{Slots}
+use Rattle.match_sheets.specs.declared.slots.TheConstants.{SLOTS}
 
 -- the slot of an offer on a result
 abbrev pub slot_of : Offer → ℕ
@@ -21,13 +22,13 @@ pub record IsInPlace (k : ℕ) (offer : Offer) : Type 0 where
 
 -- each offer stands in its slot
 abbrev pub ArePlaced : List (Option Offer) → Type 0
-ArePlaced slots = (k : ℕ) → k < 24 → IfSome (slice_index_or slots k None) (IsInPlace k)
+ArePlaced slots = (k : ℕ) → k < SLOTS → IfSome (slice_index_or slots k None) (IsInPlace k)
 
 -- the offers of the sheet are those in the slots
 pub record AreOffersOf (slots : List (Option Offer)) (offers : List Offer) : Type 0 where
   pub rising : IsSheet offers
   pub only : All (λ offer. slice_index_or slots (slot_of offer) None ≡ Some offer) offers
-  pub each : (k : ℕ) → k < 24 → IfSome (slice_index_or slots k None) (Contains offers)
+  pub each : (k : ℕ) → k < SLOTS → IfSome (slice_index_or slots k None) (Contains offers)
 
 -- the match has this name, the offers in these slots, and their finding
 pub record IsPartOf (match_name : List ℕ) (slots : List (Option Offer)) (part : MatchPart) : Type 0 where

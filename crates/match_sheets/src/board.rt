@@ -20,13 +20,10 @@ fn put_offer(
     requires { selection_number offer.selection < 3 }
     ensures { OnOk result (PutsOffer match_name offer board.old board.new) }
 {
-    if let Some(slots) = board.get_mut(&match_name) {
-        slots.put(offer);
-        return Ok(());
-    }
-    let mut slots = Slots::new();
-    slots.put(offer);
-    board.insert(match_name, slots)?;
+    board
+        .entry(match_name)?
+        .or_insert_with(Slots::new)
+        .put(offer);
     Ok(())
 }
 

@@ -39,7 +39,9 @@ fn parts_of(alloc: Global, board: &BTreeMap<Name, Slots>) -> Result<Vec<MatchPar
 {
     let mut parts = Vec::with_capacity(alloc, board.len())?;
     for (match_name, slots) in board {
-        parts.push(part_of(alloc, *match_name, slots)?)?;
+        let part = part_of(alloc, *match_name, slots)?;
+        let pushed = parts.push(part);
+        prove!(pushed.is_ok());
     }
     Ok(parts)
 }

@@ -12,6 +12,7 @@ pub(crate) const SLOTS: usize = 24;
 /// home win, the draw and the away win. So the slots are in the order of a sheet.
 #[derive(Drop)]
 pub(crate) struct Slots {
+    /// The offer in each slot, and none where nothing stands.
     pub(crate) offers: [Option<Offer>; SLOTS],
 }
 
@@ -19,7 +20,7 @@ pub(crate) struct Slots {
 fn slot(offer: &Offer) -> usize
     requires { selection_number offer.now.selection < 3 }
     ensures value { result ≡ slot_of offer.now }
-    ensures bound { result < 24 }
+    ensures bound { result < SLOTS }
 {
     3 * usize::from(offer.feed) + usize::from(offer.selection.number())
 }
@@ -27,7 +28,7 @@ fn slot(offer: &Offer) -> usize
 impl Slots {
     /// Slots without offers.
     pub(crate) fn new() -> Slots
-        ensures { result.offers ≡ replicate 24 None }
+        ensures { result.offers ≡ replicate SLOTS None }
     {
         Slots {
             offers: [None; SLOTS],
@@ -46,7 +47,7 @@ impl Slots {
     pub(crate) fn sheet(&self, alloc: Global) -> Result<Sheet, WantOfMemory>
         requires { ArePlaced self.now.offers }
         ensures only { IfOk result (All (λ offer. slice_index_or self.now.offers (slot_of offer) None ≡ Some offer)) }
-        ensures each { IfOk result (λ sheet. (k : ℕ) → k < 24
+        ensures each { IfOk result (λ sheet. (k : ℕ) → k < SLOTS
             → IfSome (slice_index_or self.now.offers k None) (Contains sheet)) }
     {
         let mut sheet = Sheet::new(alloc);

@@ -23,9 +23,8 @@ pub fn run(tableau: &mut Tableau, budget: u32) -> RunEnd
     ensures best { BestIsBest result tableau.new }
 {
     for pivots in 0..budget {
-        let choice = match choose(tableau) {
-            Some(choice) => choice,
-            None => return RunEnd::Best(pivots),
+        let Some(choice) = choose(tableau) else {
+            return RunEnd::Best(pivots);
         };
         if let Err(place) = tableau.pivot(choice.row, choice.column) {
             return RunEnd::Wide {

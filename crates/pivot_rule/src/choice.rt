@@ -11,7 +11,9 @@ use std::cmp::Ordering;
 // A pivot's row and column.
 #[derive(Clone, Copy)]
 pub(crate) struct Choice {
+    /// The row that leaves, from 0 on.
     pub(crate) row: u32,
+    /// The column that enters, from 0 on.
     pub(crate) column: u32,
 }
 
@@ -21,13 +23,11 @@ pub(crate) fn choose(tableau: &Tableau) -> Option<Choice>
     ensures some { IfSome result (λ choice. IsChoice tableau.now choice.row choice.column) }
     ensures none { IfNone result (IsBest tableau.now) }
 {
-    match entering(tableau) {
-        Some(column) => Some(Choice {
-            row: leaving(tableau, column),
-            column,
-        }),
-        None => None,
-    }
+    let column = entering(tableau)?;
+    Some(Choice {
+        row: leaving(tableau, column),
+        column,
+    })
 }
 
 // The lowest column with a positive entry in the objective row.

@@ -6,7 +6,9 @@ use std::cmp::Ordering;
 // A fraction that is not negative. The denominator is above 0.
 #[derive(Clone, Copy)]
 pub(crate) struct Ratio {
+    /// What stands above the line.
     pub(crate) numerator: u128,
+    /// What stands below it, above 0.
     pub(crate) denominator: u128,
 }
 

@@ -3,6 +3,7 @@ use feed_definitions::{Accepted, Header};
 /// A feed that was read to its end.
 #[derive(Debug, Drop)]
 pub struct ReadFeed {
+    /// The first line of the feed.
     pub header: Header,
     /// How many lines were answered, the header included.
     pub lines: u32,

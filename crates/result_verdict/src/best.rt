@@ -7,15 +7,20 @@ use scan_types::{Offer, Selection};
 /// An offer with its place in the sheet.
 #[derive(Clone, Copy)]
 pub struct Best {
+    /// The index of the offer in the sheet.
     pub place: usize,
+    /// The offer at that index.
     pub offer: Offer,
 }
 
 /// The best offers on the home win, the draw and the away win.
 #[derive(Clone, Copy)]
 pub struct Trio {
+    /// The best offer on the home win.
     pub home: Best,
+    /// The best offer on the draw.
     pub draw: Best,
+    /// The best offer on the away win.
     pub away: Best,
 }
 

@@ -10,8 +10,11 @@ use void_rules::paid;
 /// Whole stakes on the three best offers, in minor units.
 #[derive(Clone, Copy)]
 pub struct Floors {
+    /// The stake on the home win.
     pub home: u32,
+    /// The stake on the draw.
     pub draw: u32,
+    /// The stake on the away win.
     pub away: u32,
 }
 

@@ -1,4 +1,4 @@
-// What follows from the definitions of a finding, each as the contract of a function that does nothing.
+//! What follows from the definitions of a finding, each as the contract of a function that does nothing.
 
 ghost use Rattle.result_verdict.specs.Laws.{OneFinding, BindingLimitScales};
 

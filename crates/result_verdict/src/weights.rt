@@ -10,8 +10,11 @@ use std::alloc::Global;
 /// The weights of the three results: each is the product of the best odds on the other two.
 #[derive(Clone, Copy)]
 pub struct Weights {
+    /// The weight of the home win, below 2^40.
     pub home: u64,
+    /// The weight of the draw, below 2^40.
     pub draw: u64,
+    /// The weight of the away win, below 2^40.
     pub away: u64,
 }
 

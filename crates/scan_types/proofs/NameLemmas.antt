@@ -6,17 +6,18 @@ use Rattle.std.specs.Bool.{Decides}
 use Rattle.std.specs.List.{list_all}
 use Rattle.std.proofs.Common.{arith, ◌&&◌}
 use Rattle.std.proofs.lemmas.Bool.Decides.{nat_tests, Decides-and, Decides-or, Decides-eqb, Decides-like, Decides-by_and}
+use Rattle.scan_types.specs.declared.limits.TheConstants.{MOST_NAME_BYTES}
 use Rattle.scan_types.specs.Names.{IsNameByte, IsNameText, is_name_byte, is_name_text}
 use Rattle.scan_types.specs.NameView.{IsPadded}
 
 -- a name's text, followed by zeros up to 32 bytes
-pub IsPadded-from_text : (text zeros : List ℕ) → IsNameText text → zeros ≡ replicate 32 0 → IsPadded (record { bytes = text ++ drop (length text) zeros; len = length text })
+pub IsPadded-from_text : (text zeros : List ℕ) → IsNameText text → zeros ≡ replicate MOST_NAME_BYTES 0 → IsPadded (record { bytes = text ++ drop (length text) zeros; len = length text })
 IsPadded-from_text text zeros h z =
     let seam = take-append_seam text (drop (length text) zeros) in
     record {
       text = rw seam h;
       long = ap length seam;
-      zeros = let few : length text ≤ 32 = h.few in rw (seam, z) (ap (λ r. text ++ r) (sym (drop-replicate (length text) 32 0)));
+      zeros = let few : length text ≤ MOST_NAME_BYTES = h.few in rw (seam, z) (ap (λ r. text ++ r) (sym (drop-replicate (length text) MOST_NAME_BYTES 0)));
     }
 
 Decides-nat_le : (a b : ℕ) → Decides (nat_le a b) (a ≤ b)
@@ -39,4 +40,4 @@ Decides-is_name_text text =
     Decides-like _
     (λ h. record { some = h.0; few = h.1.0; bytes = h.1.1 })
     (λ h. (h.some, (h.few, h.bytes)))
-    (Decides-and _ _ (Decides-nat_le 1 (length text)) (Decides-and _ _ (Decides-nat_le (length text) 32) each))
+    (Decides-and _ _ (Decides-nat_le 1 (length text)) (Decides-and _ _ (Decides-nat_le (length text) MOST_NAME_BYTES) each))

@@ -1,5 +1,6 @@
 use Rattle.std.specs.Prelude.{ℕ, ◌≡◌, ◌≤◌, ◌⊎◌, List, length, All, Bool, nat_le, ◌==◌, ◌&&◌, ◌||◌}
 use Rattle.std.specs.List.{list_all}
+use Rattle.scan_types.specs.declared.limits.TheConstants.{MOST_NAME_BYTES}
 
 -- an ASCII letter
 abbrev pub IsLetter : ℕ → Type 0
@@ -20,7 +21,7 @@ IsNameByte b = IsLetter b ⊎ (IsDigit b ⊎ IsMark b)
 -- the text of a name: 1 to 32 such bytes
 pub record IsNameText (text : List ℕ) : Type 0 where
   pub some : 1 ≤ length text
-  pub few : length text ≤ 32
+  pub few : length text ≤ MOST_NAME_BYTES
   pub bytes : All IsNameByte text
 
 -- whether the byte is a letter, a digit, `_`, `-` or `.`
@@ -30,4 +31,4 @@ is_name_byte b =
 
 -- whether the text is a name
 abbrev pub is_name_text : List ℕ → Bool
-is_name_text text = nat_le 1 (length text) && (nat_le (length text) 32 && list_all is_name_byte text)
+is_name_text text = nat_le 1 (length text) && (nat_le (length text) MOST_NAME_BYTES && list_all is_name_byte text)

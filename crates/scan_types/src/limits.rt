@@ -1,4 +1,7 @@
-// The largest sizes.
+//! The largest sizes.
+
+/// Bytes of a book's or a match's name.
+pub const MOST_NAME_BYTES: usize = 32;
 
 /// Feeds of one run, one per bookmaker.
 pub const MOST_FEEDS: usize = 8;

@@ -3,6 +3,7 @@ ghost use Rattle.std.specs.Prelude.{◌≡◌, ◌≤◌, ◌≤ℤ◌, pos, neg
 /// An Asian handicap line in quarters of a goal, from -5.00 to 5.00, always seen from the home side.
 #[derive(Clone, Copy, Debug, PartialEq, Eq, PartialOrd, Ord, Hash)]
 pub struct HandicapLine {
+    /// Quarters of a goal, -20 to 20, added to the goals of the home side.
     pub quarters: i8,
     ghost at_least: { negsuc 19 ≤ℤ quarters },
     ghost at_most: { quarters ≤ℤ pos 20 },
@@ -27,6 +28,7 @@ impl HandicapLine {
 /// An Asian total line in quarters of a goal, from 0.50 to 7.50.
 #[derive(Clone, Copy, Debug, PartialEq, Eq, PartialOrd, Ord, Hash)]
 pub struct TotalLine {
+    /// Quarters of a goal, 2 to 30.
     pub quarters: u8,
     ghost at_least: { 2 ≤ quarters },
     ghost at_most: { quarters ≤ 30 },

@@ -1,6 +1,7 @@
 ghost use Rattle.std.specs.Prelude.{◌≡◌, IfSome, IsSome, is_some, ◌↔◌, IsTrue};
 ghost use Rattle.scan_types.specs.Names.{IsLetter, IsMark, IsNameByte, IsNameText, is_name_text};
 
+use crate::limits::MOST_NAME_BYTES;
 use std::cmp::Ordering;
 use std::hash::{Hash, Hasher};
 use std::marker::Model;
@@ -10,7 +11,7 @@ use std::marker::Model;
 /// Names are ordered by their bytes.
 #[derive(Clone, Copy, Debug)]
 pub struct Name {
-    bytes: [u8; 32],
+    bytes: [u8; MOST_NAME_BYTES],
     len: usize,
 }
 
@@ -64,10 +65,10 @@ impl Name {
         ensures test { is_some result ≡ is_name_text text.now }
     {
         let len = text.len();
-        if len == 0 || len > 32 || !text.iter().all(|byte| is_name_byte(*byte)) {
+        if len == 0 || len > MOST_NAME_BYTES || !text.iter().all(|byte| is_name_byte(*byte)) {
             return None;
         }
-        let mut bytes = [0; 32];
+        let mut bytes = [0; MOST_NAME_BYTES];
         bytes[..len].copy_from_slice(text);
         Some(Name { bytes, len })
     }

@@ -3,6 +3,7 @@ ghost use Rattle.std.specs.Prelude.{◌≡◌, ◌≤◌, IfSome, IsSome, ◌↔
 /// Decimal odds in thousandths, from 1.001 to 1000.000: a winning stake returns itself times the odds.
 #[derive(Clone, Copy, Debug, PartialEq, Eq, PartialOrd, Ord, Hash)]
 pub struct Odds {
+    /// Thousandths, 1,001 to 1,000,000.
     pub thousandths: u32,
     ghost at_least: { 1001 ≤ thousandths },
     ghost at_most: { thousandths ≤ 1000000 },

@@ -6,13 +6,17 @@ use crate::rule::VoidRule;
 use crate::selection::Selection;
 
 /// One book's offer on one match: up to `limit` minor units may be staked at `odds`.
-/// `feed` is 0 to 7, `limit` 1 to 100,000,000 minor units.
 #[derive(Clone, Copy, Debug, PartialEq, Eq, Hash)]
 pub struct Offer {
+    /// The number of the feed, 0 to 7.
     pub feed: u8,
+    /// What a bet backs.
     pub selection: Selection,
+    /// The odds of a bet.
     pub odds: Odds,
+    /// The largest stake, 1 to 100,000,000 minor units.
     pub limit: u32,
+    /// How bets are settled where the match is abandoned.
     pub rule: VoidRule,
     ghost feed_at_most: { feed ≤ 7 },
     ghost limit_at_least: { 1 ≤ limit },

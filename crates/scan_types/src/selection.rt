@@ -3,12 +3,19 @@ use crate::line::{HandicapLine, TotalLine};
 /// What a bet backs. Handicap lines are seen from the home side, for the away bet too.
 #[derive(Clone, Copy, Debug, PartialEq, Eq, Hash)]
 pub enum Selection {
+    /// The home side has more goals.
     Home,
+    /// Both sides have the same number of goals.
     Draw,
+    /// The away side has more goals.
     Away,
+    /// The home side has more goals, once the line is added to its own.
     HandicapHome(HandicapLine),
+    /// The away side has more goals, once the line is added to those of the home side.
     HandicapAway(HandicapLine),
+    /// Both sides together have more goals than the line.
     Over(TotalLine),
+    /// Both sides together have fewer goals than the line.
     Under(TotalLine),
 }
 

@@ -12,7 +12,9 @@ use void_rules::gain;
 /// How an outcome settles a sheet: its kind, and the gain of each offer.
 #[derive(Debug, Drop, PartialEq)]
 pub struct Row {
+    /// Whether the match was completed.
     pub is_final: bool,
+    /// The gain of each offer, in 1/2000 of its stake.
     pub gains: Vec<i64>,
 }
 

@@ -18,6 +18,7 @@ pub const MOST_PASSES: u16 = 256;
 /// The lock, with the state in it. Threads share it by reference, each with a pass of its own.
 #[derive(Drop)]
 pub struct TurnLock<S: Kept> {
+    /// Three words, and one slot for the state.
     pub(crate) table: LockTable<S>,
     ghost words: { table.shared.table_id.words ≡ 3 },
     ghost slots: { table.shared.table_id.slots ≡ 1 },
@@ -38,7 +39,8 @@ impl<S: Kept> TurnLock<S> {
     {
         let about = Snapshot::of(&state);
         let mut slots = Vec::with_capacity(alloc, 1)?;
-        slots.push(Some(state))?;
+        let pushed = slots.push(Some(state));
+        prove!(pushed.is_ok());
         match Table::new(alloc, &[0, 0, 0], slots, &about) {
             Ok((table, seat)) => Ok((
                 TurnLock { table },

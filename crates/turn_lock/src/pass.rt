@@ -7,8 +7,11 @@ use crate::rule::LockSeat;
 /// A pass cannot be copied. It has no bytes but its number and, of the root, a count.
 #[derive(Drop)]
 pub struct Pass<S: Kept> {
+    /// Where the pass stands at the table.
     pub(crate) seat: LockSeat<S>,
+    /// The number under which its entries stand, 0 for the root.
     pub(crate) number: u8,
+    /// Of the root: how many numbers were given, its own among them. Of others: 0.
     pub(crate) given: u16,
     ghost numbered: { number ≡ seat.me.0.number },
     ghost counted: { given ≡ seat.me.0.given },

@@ -14,16 +14,21 @@ pub const SERVING: usize = 1;
 /// How many entries were committed.
 pub const HISTORY: usize = 2;
 
-/// Where a pass stands: joined, outside, waiting with its ticket, or in its turn.
+/// Where a pass stands.
 pub enum Stage {
+    /// Joined.
     Spent,
+    /// Outside.
     Away,
+    /// Waiting with this ticket.
     Waiting(u64),
+    /// In the turn of this ticket.
     Inside(u64),
 }
 
 /// What a pass knows. No value of it is made.
 pub struct View<E, F> {
+    /// Where the pass stands.
     pub stage: Stage,
     /// The number under which its entries stand.
     pub number: u64,
@@ -41,6 +46,7 @@ pub struct View<E, F> {
     pub told: LinkedList<E>,
 }
 
+/// The rule that the table of a lock keeps.
 pub struct Law;
 
 impl<S: Kept> TableRule<Option<S>, View<S::Entry, S::Fixed>, Snapshot<S>> for Law {
@@ -51,6 +57,7 @@ impl<S: Kept> TableRule<Option<S>, View<S::Entry, S::Fixed>, Snapshot<S>> for La
     ghost first = { λ key. root_view (S.fixed key.value) };
 }
 
+/// The table of a lock.
 pub type LockTable<S> = Table<
     Option<S>,
     View<<S as Kept>::Entry, <S as Kept>::Fixed>,
@@ -59,4 +66,5 @@ pub type LockTable<S> = Table<
     Global,
 >;
 
+/// What a pass holds at the table of a lock.
 pub type LockSeat<S> = Seat<Option<S>, View<<S as Kept>::Entry, <S as Kept>::Fixed>>;

@@ -8,8 +8,11 @@ use crate::pass::Pass;
 
 /// The time in which one pass has the state. It is not `Drop`: `leave` ends it.
 pub struct Turn<'a, S: Kept> {
+    /// The pass whose turn it is.
     pub(crate) pass: &'a mut Pass<S>,
+    /// The lock that the turn is of.
     pub(crate) lock: &'a TurnLock<S>,
+    /// The state in hand.
     pub(crate) state: S,
 }
 

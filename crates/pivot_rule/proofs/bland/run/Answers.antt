@@ -8,14 +8,14 @@ loop-pivots-init c = run_none c.args.tableau.now c.requires
 pub choose-requires : goal.choose-requires
 choose-requires c = run_choosable c.args.tableau.now c.loop-pivots.tableau c.loop-pivots.pivots c.requires c.loop-pivots.invariant
 
-pub returns-in-None-clause-end : goal.returns-in-None-clause-end
-returns-in-None-clause-end c = ends_best c.args.tableau.now c.loop-pivots.tableau c.args.budget c.loop-pivots.pivots (omega arith) c.loop-pivots.invariant c.in-None.ensures.none
+pub returns-in_default-clause-end : goal.returns-in_default-clause-end
+returns-in_default-clause-end c = ends_best c.args.tableau.now c.loop-pivots.tableau c.args.budget c.loop-pivots.pivots (omega arith) c.loop-pivots.invariant c.in_default.ensures.none
 
 pub returns-in-Err-clause-end : goal.returns-in-Err-clause-end
 returns-in-Err-clause-end c = ends_wide c.args.tableau.now c.loop-pivots.tableau c.pivot.new.self c.args.budget c.loop-pivots.pivots c.in-Some.choice.row c.in-Some.choice.column c.in-Err.place.row c.in-Err.place.column (omega arith) c.loop-pivots.invariant c.in-Err.ensures.unchanged c.in-Some.ensures.some c.in-Err.ensures.passes_first
 
 pub loop-pivots-preserved : goal.loop-pivots-preserved
-loop-pivots-preserved c = run_more c.args.tableau.now c.loop-pivots.tableau c.pivot.new.self c.loop-pivots.pivots c.in-Some.choice.row c.in-Some.choice.column c.loop-pivots.invariant c.in-Some.ensures.some c.in_default.ensures.fits c.in_default.ensures.ok
+loop-pivots-preserved c = run_more c.args.tableau.now c.loop-pivots.tableau c.pivot.new.self c.loop-pivots.pivots c.in-Some.choice.row c.in-Some.choice.column c.loop-pivots.invariant c.in-Some.ensures.some c.in_default-pivot.ensures.fits c.in_default-pivot.ensures.ok
 
 pub choose-requires-2 : goal.choose-requires-2
 choose-requires-2 c = run_choosable c.args.tableau.now c.loop-pivots.tableau c.loop-pivots.pivots c.requires c.loop-pivots.invariant
@@ -23,7 +23,7 @@ choose-requires-2 c = run_choosable c.args.tableau.now c.loop-pivots.tableau c.l
 pub returns-in-Some-choose-clause-end : goal.returns-in-Some-choose-clause-end
 returns-in-Some-choose-clause-end c = ends_out c.args.tableau.now c.loop-pivots.tableau c.args.budget c.loop-pivots.pivots c.in-Some-choose.field-0.row c.in-Some-choose.field-0.column (omega arith) c.loop-pivots.invariant c.in-Some-choose.ensures.some
 
-pub returns-in-None-choose-clause-end : goal.returns-in-None-choose-clause-end
-returns-in-None-choose-clause-end c =
+pub returns-in-None-clause-end : goal.returns-in-None-clause-end
+returns-in-None-clause-end c =
     let whole : c.loop-pivots.pivots ≡ c.args.budget = omega arith in
-    ends_best c.args.tableau.now c.loop-pivots.tableau c.args.budget c.args.budget (omega arith) (subst (λ (n : ℕ). RunSoFar c.args.tableau.now n c.loop-pivots.tableau) whole c.loop-pivots.invariant) c.in-None-choose.ensures.none
+    ends_best c.args.tableau.now c.loop-pivots.tableau c.args.budget c.args.budget (omega arith) (subst (λ (n : ℕ). RunSoFar c.args.tableau.now n c.loop-pivots.tableau) whole c.loop-pivots.invariant) c.in-None.ensures.none
