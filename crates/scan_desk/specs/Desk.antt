@@ -16,7 +16,7 @@ use Rattle.scan_desk.specs.Told.{told_bytes, HasSources}
 use Rattle.scan_desk.specs.Feeds.{part_of}
 use Rattle.scan_desk.specs.Readings.{AreReadSo, StopsAtLast}
 
--- pivots of a run of a program, where no words say otherwise
+-- the budget that a report names; no finding of this stage comes from pivots
 abbrev pub default_pivots : ℕ
 default_pivots = 4096
 
