@@ -163,7 +163,7 @@ complete left faults told words opener_before opener_after ends status old new s
 complete left faults told words opener_before opener_after ends status old new sink_before sink_after (inl (due, is_due, inr broken)) plain none = absurd (none.sink broken.2)
 complete left faults told words opener_before opener_after ends status old new sink_before sink_after (inl (due, inl no_words, inl written)) plain none = absurd (some_or_none (named_feeds words) plain.names plain.named no_words.words_are)
 complete left faults told words opener_before opener_after ends status old new sink_before sink_after (inl (due, inr (names, named, inl unopened), inl written)) plain none = absurd (none.opener unopened.fault)
-complete {S} left faults told words opener_before opener_after ends status old new sink_before sink_after (inl (due, inr (names, named, inr run), inl written)) plain none =
+complete {S} left faults told words opener_before opener_after ends status old new sink_before sink_after (inl (due, inr (names, named, inr (enough, run)), inl written)) plain none =
     let both : Some plain.names ≡ Some names = sym plain.named ∙ named in
     let same : plain.names ≡ names = cc in
     let P : List (List ℕ) → Type 0 = λ ns. HaveTexts (told_bytes told ns) 0 plain.texts in

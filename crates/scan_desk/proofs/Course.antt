@@ -16,7 +16,7 @@ use Rattle.std.proofs.lemmas.Bool.Decides.{nat_tests}
 use Rattle.scan_desk.specs.Words.{named_feeds, is_feed_name}
 use Rattle.scan_desk.specs.Readings.{AreReadSo, AreRead}
 use Rattle.scan_desk.specs.Desk.{Due, IsDueAfter, IsWritten, IsCutRun, IsCourse, IsCourseOfRun}
-use Rattle.scan_desk.specs.Told.{told_bytes}
+use Rattle.scan_desk.specs.Told.{told_bytes, HasSources}
 use Rattle.scan_desk.specs.Texts.{cannot_be_opened}
 use Rattle.desk_io.specs.Faults.{Rose}
 use Rattle.scan_desk.proofs.ReadAll.{parts_are}
@@ -87,11 +87,11 @@ course_unopened left faults told words names opener_before opener_after feed end
     let mk : List ℕ → Due = λ t. record { status = 3; text = t } in
     inl (mk text.items, inr (names, named, inl (record { feed = feed; is_named = fault.0; fault = fault.1; none_begun = none; due_is = ap mk line })), written)
 course_unopened left faults told words names opener_before opener_after feed ends answer (Err _) old new sink_before sink_after named fault none line written =
-    inr (written.0, written.1, names, named, none_begun left faults (told_bytes told names) (length names) ends none)
+    inr (written.0, written.1, names, named, inl none, none_begun left faults (told_bytes told names) (length names) ends none)
 
 -- the course where the feeds were opened
 pub course_of_names : {S : Type 0} (left : S → Option (List ℕ)) (faults : S → ℕ) (told : List ℕ → Option (List (List ℕ))) (words names : List (List ℕ)) (opener_before opener_after : ℕ) (ends : List (FeedEnd S)) (answer : ℕ)
-    (old new : Option (List ℕ)) (sink_before sink_after : ℕ) → named_feeds words ≡ Some names → IsCourseOfRun left faults (told_bytes told names) (length names) ends answer old new sink_before sink_after
+    (old new : Option (List ℕ)) (sink_before sink_after : ℕ) → named_feeds words ≡ Some names → HasSources told names → IsCourseOfRun left faults (told_bytes told names) (length names) ends answer old new sink_before sink_after
     → IsCourse left faults told words opener_before opener_after ends answer old new sink_before sink_after
-course_of_names left faults told words names opener_before opener_after ends answer old new sink_before sink_after named (inl run) = inl (run.0, inr (names, named, inr run.1), run.2)
-course_of_names left faults told words names opener_before opener_after ends answer old new sink_before sink_after named (inr cut) = inr (cut.0, cut.1, names, named, cut.2)
+course_of_names left faults told words names opener_before opener_after ends answer old new sink_before sink_after named enough (inl run) = inl (run.0, inr (names, named, inr (enough, run.1)), run.2)
+course_of_names left faults told words names opener_before opener_after ends answer old new sink_before sink_after named enough (inr cut) = inr (cut.0, cut.1, names, named, inr enough, cut.2)

@@ -6,3 +6,4 @@ pub mod ReadAll
 pub mod Course
 pub mod Statuses
 pub mod Complete
+pub mod Missing

@@ -1,11 +1,14 @@
 -- The sources of the named feeds, as they are opened one after another.
-use Rattle.std.proofs.Common.{◌≡◌, ℕ, ◌+◌, ◌<◌, List, [], ◌∷◌, ◌++◌, length, get_or, take, suc, Option, Some, None, sym, subst, MatchOption, IfSome, arith}
+use Rattle.std.proofs.Common.{◌≡◌, ◌≢◌, ℕ, zero, suc, ◌+◌, ◌<◌, ◌≤◌, Bool, true, false, cond, List, [], ◌∷◌, ◌++◌, length, get_or, take, drop, Option, Some, None, refl, sym, ◌∙◌, ap, subst, MatchOption, IfSome, arith, zero-add}
 use Rattle.std.specs.Bool.{⊤}
 use Rattle.std.specs.Option.{option_and_then}
+use Rattle.std.specs.Str.{bytes_eq}
 use Rattle.std.proofs.lemmas.List.{take_more}
-use Rattle.desk_io.specs.Opener.{Told, OpensFirst, SameUnderOthers, OpenedUnder, next_under}
+use Rattle.std.proofs.lemmas.List.Sums.{sum_by-append}
+use Rattle.std.proofs.lemmas.Slice.Eq.{bytes_eq-Decides}
+use Rattle.desk_io.specs.Opener.{Told, OpensFirst, SameUnderOthers, OpenedUnder, times, next_under}
 use Rattle.desk_io.proofs.Openings.{opened_under_more, opens_next}
-use Rattle.scan_desk.specs.Told.{told_bytes}
+use Rattle.scan_desk.specs.Told.{told_bytes, HasSources}
 use Rattle.scan_desk.specs.Opening.{IsOpened, AreOpened}
 
 -- the openings under one name more
@@ -42,3 +45,54 @@ AreOpened_push left faults told number (first ∷ sources) source h o =
     let e : number + suc (length sources) ≡ number + 1 + length sources = omega arith in
     let P : ℕ → Type 0 = λ k. IsOpened left faults (told k) source in
     (h.0, AreOpened_push left faults told (number + 1) sources source h.1 (subst P e o))
+
+-- under a name that is opened once more there was one more source
+times_more : (name other : List ℕ) (earlier : List (List ℕ)) → times other (earlier ++ name ∷ []) ≡ times other earlier + cond (bytes_eq name other) 1 0
+times_more name other earlier = sum_by-append (λ n. cond (bytes_eq n other) 1 0) earlier (name ∷ []) ∙ ap (λ k. times other earlier + k) (zero-add (cond (bytes_eq name other) 1 0))
+
+pub enough_none : (told : Told) → HasSources told []
+enough_none told name = none (told name)
+  where
+    none : (o : Option (List (List ℕ))) → IfSome o (λ sources. 0 ≤ length sources)
+    none None = tt
+    none (Some sources) = omega arith
+
+some_left : (sources : List (List ℕ)) (k : ℕ) → drop k sources ≢ [] → k < length sources
+some_left [] zero h = absurd (h refl)
+some_left [] (suc k) h = absurd (h refl)
+some_left (source ∷ sources) zero h = omega arith
+some_left (source ∷ sources) (suc k) h = omega (arith, some_left sources k h)
+
+-- the list of the name that is opened
+enough_here : (told now after : Option (List (List ℕ))) (left : Option (List ℕ)) (k : ℕ) → IfSome told (λ sources. now ≡ Some (drop k sources)) → OpensFirst now after left → IfSome told (λ sources. k + 1 ≤ length sources)
+enough_here None now after left k is opens = tt
+enough_here (Some sources) now after left k is opens =
+    let P : Option (List (List ℕ)) → Type 0 = λ o. OpensFirst o after left in
+    let Q : List (List ℕ) → Type 0 = λ rest. OpensFirst (Some rest) after left in
+    omega (arith, some_left sources k (λ e. subst Q e (subst P is opens)))
+
+enough_there : (told : Option (List (List ℕ))) (k more : ℕ) → more ≤ k → IfSome told (λ sources. k ≤ length sources) → IfSome told (λ sources. more ≤ length sources)
+enough_there None k more few h = tt
+enough_there (Some sources) k more few h = omega arith
+
+enough_under : (first now after : Told) (earlier : List (List ℕ)) (name : List ℕ) (left : Option (List ℕ)) → OpenedUnder earlier first now → HasSources first earlier → OpensFirst (now name) (after name) left → HasSources first (earlier ++ name ∷ [])
+enough_under first now after earlier name left opened enough opens other = by (bytes_eq name other) refl
+  where
+    by : (same : Bool) → bytes_eq name other ≡ same → IfSome (first other) (λ sources. times other (earlier ++ name ∷ []) ≤ length sources)
+    by true same =
+        let is : name ≡ other = (bytes_eq-Decides name other).0 same in
+        let count : times other (earlier ++ name ∷ []) ≡ times other earlier + 1 = times_more name other earlier ∙ ap (λ b. times other earlier + cond b 1 0) same in
+        let P : List ℕ → Type 0 = λ n. IfSome (first n) (λ sources. times n earlier + 1 ≤ length sources) in
+        enough_there (first other) (times other earlier + 1) (times other (earlier ++ name ∷ [])) (omega (arith, count))
+        (subst P is (enough_here (first name) (now name) (after name) left (times name earlier) (opened name) opens))
+    by false differ =
+        let count : times other (earlier ++ name ∷ []) ≡ times other earlier + 0 = times_more name other earlier ∙ ap (λ b. times other earlier + cond b 1 0) differ in
+        enough_there (first other) (times other earlier) (times other (earlier ++ name ∷ [])) (omega (arith, count)) (enough other)
+
+-- one name more
+pub enough_more : (first now after : Told) (names : List (List ℕ)) (n : ℕ) (name : List ℕ) (left : Option (List ℕ)) → n < length names → name ≡ get_or names n [] → OpenedUnder (take n names) first now
+    → HasSources first (take n names) → OpensFirst (now name) (after name) left → HasSources first (take (n + 1) names)
+enough_more first now after names n name left lt is opened enough opens =
+    let P : List (List ℕ) → Type 0 = λ xs. HasSources first xs in
+    let Q : List ℕ → Type 0 = λ x. P (take n names ++ x ∷ []) in
+    subst P (sym (take_more names n [] lt)) (subst Q is (enough_under first now after (take n names) name left opened enough opens))

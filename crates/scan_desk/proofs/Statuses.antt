@@ -40,7 +40,7 @@ due_says left faults told words opener_before opener_after ends due (inl none) =
 due_says left faults told words opener_before opener_after ends due (inr named) =
     elim named.2 [
       | inl unopened ↦ inr (inl (ap (λ d. d.status) unopened.due_is, some_named words named.0 named.1, unopened.fault, unopened.none_begun))
-      | inr run ↦ inr (inr (some_named words named.0 named.1, run.stop, run.stop_is, status_of_stop run.stop ends run.texts due run.due_is))
+      | inr read ↦ let run = read.1 in inr (inr (some_named words named.0 named.1, run.stop, run.stop_is, status_of_stop run.stop ends run.texts due run.due_is))
     ]
 
 -- the status of a run: what was due with it; or 5, where a write failed; or 7
@@ -140,7 +140,7 @@ done left faults told words opener_before opener_after ends status old new sink_
 done left faults told words opener_before opener_after ends status old new sink_before sink_after (inl (due, is_due, inr broken)) e = absurd (omega (arith, broken.0))
 done left faults told words opener_before opener_after ends status old new sink_before sink_after (inl (due, inl none, inl written)) e = absurd (omega (arith, written.0, ap (λ d. d.status) none.due_is))
 done left faults told words opener_before opener_after ends status old new sink_before sink_after (inl (due, inr (names, named, inl unopened), inl written)) e = absurd (omega (arith, written.0, ap (λ d. d.status) unopened.due_is))
-done left faults told words opener_before opener_after ends status old new sink_before sink_after (inl (due, inr (names, named, inr run), inl written)) e =
+done left faults told words opener_before opener_after ends status old new sink_before sink_after (inl (due, inr (names, named, inr (enough, run)), inl written)) e =
     let zero : due.status ≡ 0 = omega (arith, written.0) in
     let at_end : run.stop ≡ stops.End = elim (status_of_stop run.stop ends run.texts due run.due_is) [
       | inl whole ↦ whole.0
@@ -176,7 +176,7 @@ answered_with words opener_before opener_after ends status old new sink_before s
 
 pub no_command_due : {S : Type 0} (left : S → Option (List ℕ)) (faults : S → ℕ) (told : List ℕ → Option (List (List ℕ))) (words : List (List ℕ)) (opener_before opener_after : ℕ) (ends : List (FeedEnd S)) (status : ℕ) (old new : Option (List ℕ)) (sink_before sink_after : ℕ)
     → IsCourse left faults told words opener_before opener_after ends status old new sink_before sink_after → named_feeds words ≡ None → (status ≡ 2) ⊎ (status ≡ 5)
-no_command_due left faults told words opener_before opener_after ends status old new sink_before sink_after (inr (seven, kept, names, named, run)) e = let wrong = sym e ∙ named in absurd (cc)
+no_command_due left faults told words opener_before opener_after ends status old new sink_before sink_after (inr (seven, kept, names, named, enough, run)) e = let wrong = sym e ∙ named in absurd (cc)
 no_command_due left faults told words opener_before opener_after ends status old new sink_before sink_after (inl (due, inr (names, named, rest), written)) e = let wrong = sym e ∙ named in absurd (cc)
 no_command_due left faults told words opener_before opener_after ends status old new sink_before sink_after (inl (due, inl none, inl written)) e = inl (omega (arith, written.0, ap (λ d. d.status) none.due_is))
 no_command_due left faults told words opener_before opener_after ends status old new sink_before sink_after (inl (due, inl none, inr broken)) e = inr broken.0

@@ -12,11 +12,11 @@ use Rattle.scan_desk.specs.declared.feed_end.FeedStop.{FeedStop}
 use Rattle.scan_desk.specs.declared.feed_end.FeedStop.TheVariants as stops
 use Rattle.scan_desk.specs.Words.{named_feeds}
 use Rattle.scan_desk.specs.Texts.{no_command, cannot_be_opened, cannot_be_read, is_not_built}
-use Rattle.scan_desk.specs.Told.{told_bytes}
+use Rattle.scan_desk.specs.Told.{told_bytes, HasSources}
 use Rattle.scan_desk.specs.Feeds.{part_of}
 use Rattle.scan_desk.specs.Readings.{AreReadSo, StopsAtLast}
 
--- pivots of a run of a program, where no words say otherwise
+-- the budget that a report names; no finding of this stage comes from pivots
 abbrev pub default_pivots : ℕ
 default_pivots = 4096
 
@@ -66,11 +66,12 @@ pub record IsRun {S : Type 0} (left : S → Option (List ℕ)) (faults : S → �
   pub all : stop ≡ stops.End → length ends ≡ count
   pub due_is : IsDueAfter stop ends texts due
 
--- what is due for these words, with what an opener told and what its count of faults did
+-- what is due for these words, with what an opener told and what its count of faults did: feeds are read only where it has a
+-- source for each of them
 abbrev pub IsDue : {S : Type 0} → (S → Option (List ℕ)) → (S → ℕ) → (List ℕ → Option (List (List ℕ))) → List (List ℕ) → ℕ → ℕ → List (FeedEnd S) → Due → Type 0
 IsDue left faults told words faults_before faults_after ends due =
     IsNoCommand words ends due ⊎ ((names : List (List ℕ)) × (named_feeds words ≡ Some names)
-    × (IsNotOpened names faults_before faults_after ends due ⊎ IsRun left faults (told_bytes told names) (length names) ends due))
+    × (IsNotOpened names faults_before faults_after ends due ⊎ (HasSources told names × IsRun left faults (told_bytes told names) (length names) ends due)))
 
 -- what was due was written; or a write failed after a part of it, and the status is 5
 abbrev pub IsWritten : Due → ℕ → Option (List ℕ) → Option (List ℕ) → ℕ → ℕ → Type 0
@@ -85,11 +86,12 @@ pub record IsCutRun {S : Type 0} (left : S → Option (List ℕ)) (faults : S �
   pub few : length ends ≤ count
   pub last : (ends ≡ []) ⊎ ((stop : FeedStop) × StopsAtLast stop ends × (stop ≡ stops.End → length ends ≡ count))
 
--- what a run does: what is due is written; or the words name feeds, memory was wanting, the status is 7, and nothing is written
+-- what a run does: what is due is written; or the words name feeds, memory was wanting, the status is 7, and nothing is written; feeds
+-- were begun only where the opener has a source for each of them
 abbrev pub IsCourse : {S : Type 0} → (S → Option (List ℕ)) → (S → ℕ) → (List ℕ → Option (List (List ℕ))) → List (List ℕ) → ℕ → ℕ → List (FeedEnd S) → ℕ → Option (List ℕ) → Option (List ℕ) → ℕ → ℕ → Type 0
 IsCourse left faults told words opener_before opener_after ends status old new sink_before sink_after =
     ((due : Due) × IsDue left faults told words opener_before opener_after ends due × IsWritten due status old new sink_before sink_after)
-    ⊎ ((status ≡ 7) × Keeps old new × (names : List (List ℕ)) × (named_feeds words ≡ Some names) × IsCutRun left faults (told_bytes told names) (length names) ends)
+    ⊎ ((status ≡ 7) × Keeps old new × (names : List (List ℕ)) × (named_feeds words ≡ Some names) × ((ends ≡ []) ⊎ HasSources told names) × IsCutRun left faults (told_bytes told names) (length names) ends)
 
 -- the same after the feeds were opened
 abbrev pub IsCourseOfRun : {S : Type 0} → (S → Option (List ℕ)) → (S → ℕ) → (ℕ → Option (List ℕ)) → ℕ → List (FeedEnd S) → ℕ → Option (List ℕ) → Option (List ℕ) → ℕ → ℕ → Type 0

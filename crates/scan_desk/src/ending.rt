@@ -15,8 +15,8 @@ use report_definitions::ReadFeed;
 use scan_types::WantOfMemory;
 use std::alloc::Global;
 
-/// Pivots of a run of a program, where no words say otherwise.
-pub const DEFAULT_PIVOTS: u32 = 4096;
+/// The budget that a report names; no finding of this stage comes from pivots.
+const DEFAULT_PIVOTS: u32 = 4096;
 
 /// The report of feeds that were read to their ends.
 fn report(alloc: Global, feeds: &[ReadFeed]) -> Result<Vec<u8>, WantOfMemory>

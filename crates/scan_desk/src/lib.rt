@@ -21,7 +21,6 @@ mod texts;
 mod words;
 mod writing;
 
-pub use ending::DEFAULT_PIVOTS;
 pub use feed_end::{FeedEnd, FeedStop};
 pub use program::{DeskEnd, desk};
 

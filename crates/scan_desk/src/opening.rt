@@ -1,9 +1,9 @@
 //! Opening the named feeds.
 
-ghost use Rattle.std.specs.Prelude.{◌≡◌, ◌<◌, ◌≤◌, map, length, IfOk, IfErr, string_bytes};
+ghost use Rattle.std.specs.Prelude.{◌≡◌, ◌<◌, ◌≤◌, map, length, IfOk, OnOk, IfErr, string_bytes};
 ghost use Rattle.std.specs.VecDeque.{deque_len};
 ghost use Rattle.desk_io.specs.Faults.{Rose};
-ghost use Rattle.scan_desk.specs.Told.{told_bytes};
+ghost use Rattle.scan_desk.specs.Told.{told_bytes, HasSources};
 ghost use Rattle.scan_desk.specs.Opening.{AreOpened, IsCause};
 
 use desk_io::{OpenFault, Opener};
@@ -27,6 +27,7 @@ pub(crate) fn open_all<O: Opener>(
     ensures each { IfOk result (λ sources. deque_len sources ≡ length names.now) }
     ensures opened { IfOk result (λ sources.
         AreOpened O.S.left O.S.faults (told_bytes (O.told opener.old) (map string_bytes names.now)) 0 sources.items) }
+    ensures enough { OnOk result (HasSources (O.told opener.old) (map string_bytes names.now)) }
     ensures failed { IfErr result (IsCause (length names.now) (O.faults opener.old) (O.faults opener.new)) }
 {
     let Ok(mut sources) = VecDeque::with_capacity(alloc, names.len()) else {

@@ -1,11 +1,12 @@
 //! The top call: everything that the program does.
 
-ghost use Rattle.std.specs.Prelude.{ℕ, ◌≡◌, ◌<◌, ◌≤◌, ◌⊎◌, List, Option, map, string_bytes};
+ghost use Rattle.std.specs.Prelude.{ℕ, ◌≡◌, ◌<◌, ◌≤◌, ◌⊎◌, List, [], Option, map, string_bytes};
 ghost use Rattle.std.specs.VecDeque.{deque_len};
 ghost use Rattle.scan_desk.specs.Opening.{AreOpened};
 ghost use Rattle.std.specs.Io.KnownBytes.{Keeps};
 ghost use Rattle.desk_io.specs.Faults.{Rose};
 ghost use Rattle.scan_desk.specs.Words.{named_feeds};
+ghost use Rattle.scan_desk.specs.Told.{NameMissingFeed};
 ghost use Rattle.scan_desk.specs.PlainFeeds.{NamePlainFeeds};
 ghost use Rattle.scan_desk.specs.Readings.{StopsAtLast};
 ghost use Rattle.scan_desk.specs.Desk.{IsCourse, IsCourseOfRun, IsReported, IsOrYields, HasNoFault};
@@ -113,11 +114,14 @@ pub fn desk<O: Opener, K: Sink>(
     ensures complete { NamePlainFeeds (O.told opener.old) (map string_bytes words.now) →
         HasNoFault O.S.faults (O.faults opener.old) (O.faults opener.new) result.feeds.items (K.faults sink.old) (K.faults sink.new) → (result.status ≡ 0) ⊎ (result.status ≡ 7) }
 
-    // Each other status but 7 has its cause. Words that are no command, a failed read and a line that is not built also have their
-    // status, unless a write fails or memory is wanting; words that are no command take none.
+    // Each other status but 7 has its cause. Words that are no command, a named feed that the opener has no source for, a failed read
+    // and a line that is not built also have their status, unless a write fails or memory is wanting; words that are no command take
+    // none. All feeds are opened before the first is read: where one of them has no source, none is begun.
     ensures no_command { result.status ≡ 2 → named_feeds (map string_bytes words.now) ≡ None }
     ensures no_command_due { named_feeds (map string_bytes words.now) ≡ None → (result.status ≡ 2) ⊎ (result.status ≡ 5) }
     ensures not_opened { result.status ≡ 3 → Rose (O.faults opener.old) (O.faults opener.new) }
+    ensures not_opened_due { NameMissingFeed (O.told opener.old) (map string_bytes words.now) → IsOrYields 3 result.status }
+    ensures none_begun { NameMissingFeed (O.told opener.old) (map string_bytes words.now) → result.feeds.items ≡ [] }
     ensures not_read { result.status ≡ 4 → StopsAtLast FeedStop.ReadFault result.feeds.items }
     ensures not_read_due { StopsAtLast FeedStop.ReadFault result.feeds.items → IsOrYields 4 result.status }
     ensures not_written { result.status ≡ 5 → Rose (K.faults sink.old) (K.faults sink.new) }

@@ -98,60 +98,70 @@ fn floors_of_small_limits_are_unsettled(rt: HostRuntime) -> Result<(), Fail> {
     Ok(())
 }
 
+const NO_COMMAND: (u8, &str) = (2, "error: the words are no command\n");
+
+/// Words, the texts of files `a` and `b`, and the status and text of their refusal.
+const REFUSALS: [(&[&str], &str, &str, (u8, &str)); 13] = [
+    (&[], ALPHA, BETA, NO_COMMAND),
+    (&["once"], ALPHA, BETA, NO_COMMAND),
+    (&["once", "a", "b", "c"], ALPHA, BETA, NO_COMMAND),
+    (&["once", "-a"], ALPHA, BETA, NO_COMMAND),
+    (&["scan", "a"], ALPHA, BETA, NO_COMMAND),
+    (
+        &["once", "a", "c"],
+        ALPHA,
+        BETA,
+        (3, "error: feed 1 cannot be opened\n"),
+    ),
+    // The second feed is opened before the first, which has no line, is read.
+    (
+        &["once", "a", "c"],
+        "",
+        BETA,
+        (3, "error: feed 1 cannot be opened\n"),
+    ),
+    (
+        &["once", ""],
+        ALPHA,
+        BETA,
+        (3, "error: feed 0 cannot be opened\n"),
+    ),
+    (
+        &["once", "a"],
+        "",
+        BETA,
+        (11, "error: feed 0 line 1 is not built yet\n"),
+    ),
+    (
+        &["once", "a"],
+        "feed 1 alpha void\nquote m1 total 2.5 over 2.1 100\n",
+        BETA,
+        (11, "error: feed 0 line 2 is not built yet\n"),
+    ),
+    (
+        &["once", "a", "b"],
+        ALPHA,
+        "feed 1 alpha void\n",
+        (11, "error: feed 1 line 1 is not built yet\n"),
+    ),
+    (
+        &["once", "b", "a"],
+        "feed 1 alpha void\nquote m1 1x2 home 2.1 9",
+        BETA,
+        (11, "error: feed 1 line 2 is not built yet\n"),
+    ),
+    (
+        &["once", "a"],
+        "feed 1 alpha void\r\n",
+        BETA,
+        (11, "error: feed 0 line 1 is not built yet\n"),
+    ),
+];
+
 #[test]
 fn each_refusal_has_its_line(rt: HostRuntime) -> Result<(), Fail> {
-    let alloc = rt.alloc();
-    let no_command = (2, "error: the words are no command\n");
-    for (line, a, b, want) in [
-        ([].as_slice(), ALPHA, BETA, no_command),
-        (["once"].as_slice(), ALPHA, BETA, no_command),
-        (["once", "a", "b", "c"].as_slice(), ALPHA, BETA, no_command),
-        (["once", "-a"].as_slice(), ALPHA, BETA, no_command),
-        (["scan", "a"].as_slice(), ALPHA, BETA, no_command),
-        (
-            ["once", "a", "c"].as_slice(),
-            ALPHA,
-            BETA,
-            (3, "error: feed 1 cannot be opened\n"),
-        ),
-        (
-            ["once", ""].as_slice(),
-            ALPHA,
-            BETA,
-            (3, "error: feed 0 cannot be opened\n"),
-        ),
-        (
-            ["once", "a"].as_slice(),
-            "",
-            BETA,
-            (11, "error: feed 0 line 1 is not built yet\n"),
-        ),
-        (
-            ["once", "a"].as_slice(),
-            "feed 1 alpha void\nquote m1 total 2.5 over 2.1 100\n",
-            BETA,
-            (11, "error: feed 0 line 2 is not built yet\n"),
-        ),
-        (
-            ["once", "a", "b"].as_slice(),
-            ALPHA,
-            "feed 1 alpha void\n",
-            (11, "error: feed 1 line 1 is not built yet\n"),
-        ),
-        (
-            ["once", "b", "a"].as_slice(),
-            "feed 1 alpha void\nquote m1 1x2 home 2.1 9",
-            BETA,
-            (11, "error: feed 1 line 2 is not built yet\n"),
-        ),
-        (
-            ["once", "a"].as_slice(),
-            "feed 1 alpha void\r\n",
-            BETA,
-            (11, "error: feed 0 line 1 is not built yet\n"),
-        ),
-    ] {
-        let (status, written) = run(alloc, line, a, b)?;
+    for (line, a, b, want) in REFUSALS {
+        let (status, written) = run(rt.alloc(), line, a, b)?;
         assert_eq!(rt; status, want.0);
         assert_eq!(rt; str::from_utf8(&written)?, want.1);
     }

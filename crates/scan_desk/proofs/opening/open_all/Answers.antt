@@ -1,9 +1,9 @@
-use Rattle.std.proofs.Common.{◌≡◌, ◌++◌, ◌∷◌, refl, true, is_ok, MatchOption, Some, ◌<◌, ◌+◌, map, length, string_bytes, arith, get_or, [], Global, sym, ◌∙◌, ap, subst, ℕ}
-use Rattle.std.proofs.lemmas.List.{get_or-map, length-map}
+use Rattle.std.proofs.Common.{◌≡◌, ◌++◌, ◌∷◌, refl, true, is_ok, MatchOption, Some, ◌<◌, ◌+◌, map, length, string_bytes, arith, get_or, [], Global, sym, ◌∙◌, ap, subst, ℕ, ◌≤◌, List}
+use Rattle.std.proofs.lemmas.List.{get_or-map, length-map, take_all}
 use Rattle.std.specs.Bool.{⊤}
-use Rattle.scan_desk.specs.Told.{told_bytes}
+use Rattle.scan_desk.specs.Told.{told_bytes, HasSources}
 use Rattle.desk_io.proofs.Openings.{opened_under_none}
-use Rattle.scan_desk.proofs.Opened.{opened_more, tells, AreOpened_push}
+use Rattle.scan_desk.proofs.Opened.{opened_more, tells, enough_none, enough_more, AreOpened_push}
 use Rattle.scan_desk.proofs.opening.open_all.Goals as goal
 
 pub loop-number-init : goal.loop-number-init
@@ -11,6 +11,7 @@ loop-number-init g c = record {
   count = omega (arith, c.in-Ok.ensures.len);
   faults = omega arith;
   told = opened_under_none (g.O.Opener.told c.args.opener.now);
+  enough = enough_none (g.O.Opener.told c.args.opener.now);
   opened = rw c.in-Ok.ensures.items tt;
 }
 
@@ -37,6 +38,7 @@ loop-number-preserved g c =
       count = rw ok at c.push_back.ensures.len ∙ ap (λ k. k + 1) c.loop-number.invariant.count;
       faults = omega (arith, c.open_feed.ensures.faults_kept, c.loop-number.invariant.faults);
       told = opened_more before now after names n c.as_str.result.now left lt is c.loop-number.invariant.told c.in-Ok-open_feed.ensures.opened c.in-Ok-open_feed.ensures.others;
+      enough = enough_more before now after names n c.as_str.result.now left lt is c.loop-number.invariant.told c.loop-number.invariant.enough c.in-Ok-open_feed.ensures.opened;
       opened = rw items (AreOpened_push g.O.S.Source.left g.O.S.Source.faults (told_bytes before names) 0 c.loop-number.sources.items c.in-Ok-open_feed.source c.loop-number.invariant.opened (record {
         fresh = c.in-Ok-open_feed.ensures.fresh;
         tells = let P : ℕ → Type 0 = λ k. MatchOption (told_bytes before names k) ⊤ (λ bytes. left ≡ Some bytes) in
@@ -49,3 +51,10 @@ returns-clause-each g c = omega (arith, c.loop-number.invariant.count)
 
 pub returns-clause-opened : goal.returns-clause-opened
 returns-clause-opened g c = c.loop-number.invariant.opened
+
+pub returns-clause-enough : goal.returns-clause-enough
+returns-clause-enough g c =
+    let names = map (string_bytes {Z = Global}) c.args.names.now in
+    let all : length names ≤ c.loop-number.number = omega (arith, length-map c.args.names.now (string_bytes {Z = Global}), c.loop-number-test.false) in
+    let P : List (List ℕ) → Type 0 = λ xs. HasSources (g.O.Opener.told c.args.opener.now) xs in
+    subst P (take_all c.loop-number.number names all) c.loop-number.invariant.enough

@@ -1,6 +1,6 @@
 use Rattle.std.proofs.Common.{◌≡◌, ◌≤◌, map, take, string_bytes}
 use Rattle.std.specs.VecDeque.{deque_len}
-use Rattle.scan_desk.specs.Told.{told_bytes}
+use Rattle.scan_desk.specs.Told.{told_bytes, HasSources}
 use Rattle.scan_desk.specs.Opening.{AreOpened}
 use Rattle.desk_io.specs.Opener.{OpenedUnder}
 use Rattle.scan_desk.proofs.opening.open_all.Given as goal
@@ -14,5 +14,6 @@ invariant-loop-number g l =
       count : deque_len l.sources ≡ l.number;
       faults : g.O.Opener.faults l.fn.opener ≤ g.O.Opener.faults l.opener;
       told : OpenedUnder (take l.number names) told_first (g.O.Opener.told l.opener);
+      enough : HasSources told_first (take l.number names);
       opened : AreOpened g.O.S.Source.left g.O.S.Source.faults (told_bytes told_first names) 0 l.sources.items;
     }

@@ -54,4 +54,4 @@ returns-in-Ok g c =
     let count : deque_len c.in-Ok.sources ≡ length names = omega (arith, c.in-Ok.ensures.each, length-map c.in-Some.names.now (string_bytes {Z = Global})) in
     let P : ℕ → Type 0 = λ n. IsCourseOfRun S.left S.faults (told_bytes told names) n c.read_and_write.result.feeds.items c.read_and_write.result.status (K.written before) (K.written after) (K.faults before) (K.faults after) in
     course_of_names S.left S.faults told words names (g.O.Opener.faults c.args.opener.now) (g.O.Opener.faults c.open_all.new.opener) c.read_and_write.result.feeds.items c.read_and_write.result.status
-    (K.written before) (K.written after) (K.faults before) (K.faults after) (sym c.in-Some.ensures) (subst P count (c.read_and_write.ensures (told_bytes told names) c.in-Ok.ensures.opened))
+    (K.written before) (K.written after) (K.faults before) (K.faults after) (sym c.in-Some.ensures) c.in-Ok.ensures.enough (subst P count (c.read_and_write.ensures (told_bytes told names) c.in-Ok.ensures.opened))

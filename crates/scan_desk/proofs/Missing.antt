@@ -1,0 +1,41 @@
+-- A run whose words name a feed that the opener has no source for.
+use Rattle.std.proofs.Common.{◌≡◌, ℕ, ◌<◌, ◌≤◌, List, [], Option, Some, None, IfSome, sym, ◌∙◌, ap, subst, inl, inr, length, arith}
+use Rattle.desk_io.specs.Opener.{Told, times}
+use Rattle.scan_desk.specs.declared.feed_end.FeedEnd.{FeedEnd}
+use Rattle.scan_desk.specs.Words.{named_feeds}
+use Rattle.scan_desk.specs.Told.{HasSources, NameMissingFeed}
+use Rattle.scan_desk.specs.Desk.{IsCourse, IsOrYields}
+
+too_few : (told : Option (List (List ℕ))) (sources : List (List ℕ)) (count : ℕ) → told ≡ Some sources → IfSome told (λ xs. count ≤ length xs) → length sources < count → ⊥
+too_few told sources count e enough few =
+    let P : Option (List (List ℕ)) → Type 0 = λ o. IfSome o (λ xs. count ≤ length xs) in
+    let h : count ≤ length sources = subst P e enough in
+    omega arith
+
+-- a source was not opened for each named feed
+lacks : (told : Told) (words names : List (List ℕ)) → NameMissingFeed told words → named_feeds words ≡ Some names → HasSources told names → ⊥
+lacks told words names missing named enough =
+    let both : Some missing.names ≡ Some names = sym missing.named ∙ named in
+    let same : names ≡ missing.names = cc in
+    let P : List (List ℕ) → Type 0 = λ ns. HasSources told ns in
+    too_few (told missing.name) missing.sources (times missing.name missing.names) missing.are_told (subst P same enough missing.name) missing.too_few
+
+some_or_none : (told : Told) (words : List (List ℕ)) → NameMissingFeed told words → named_feeds words ≡ None → ⊥
+some_or_none told words missing none = let wrong = sym missing.named ∙ none in absurd (cc)
+
+pub not_opened_due : {S : Type 0} (left : S → Option (List ℕ)) (faults : S → ℕ) (told : Told) (words : List (List ℕ)) (opener_before opener_after : ℕ) (ends : List (FeedEnd S)) (status : ℕ) (old new : Option (List ℕ)) (sink_before sink_after : ℕ)
+    → IsCourse left faults told words opener_before opener_after ends status old new sink_before sink_after → NameMissingFeed told words → IsOrYields 3 status
+not_opened_due left faults told words opener_before opener_after ends status old new sink_before sink_after (inr cut) missing = inr (inr cut.0)
+not_opened_due left faults told words opener_before opener_after ends status old new sink_before sink_after (inl (due, is_due, inr broken)) missing = inr (inl broken.0)
+not_opened_due left faults told words opener_before opener_after ends status old new sink_before sink_after (inl (due, inl none, inl written)) missing = absurd (some_or_none told words missing none.words_are)
+not_opened_due left faults told words opener_before opener_after ends status old new sink_before sink_after (inl (due, inr (names, named, inl unopened), inl written)) missing =
+    inl (written.0 ∙ ap (λ d. d.status) unopened.due_is)
+not_opened_due left faults told words opener_before opener_after ends status old new sink_before sink_after (inl (due, inr (names, named, inr (enough, run)), inl written)) missing = absurd (lacks told words names missing named enough)
+
+pub none_begun : {S : Type 0} (left : S → Option (List ℕ)) (faults : S → ℕ) (told : Told) (words : List (List ℕ)) (opener_before opener_after : ℕ) (ends : List (FeedEnd S)) (status : ℕ) (old new : Option (List ℕ)) (sink_before sink_after : ℕ)
+    → IsCourse left faults told words opener_before opener_after ends status old new sink_before sink_after → NameMissingFeed told words → ends ≡ []
+none_begun left faults told words opener_before opener_after ends status old new sink_before sink_after (inr (seven, kept, names, named, inl none, run)) missing = none
+none_begun left faults told words opener_before opener_after ends status old new sink_before sink_after (inr (seven, kept, names, named, inr enough, run)) missing = absurd (lacks told words names missing named enough)
+none_begun left faults told words opener_before opener_after ends status old new sink_before sink_after (inl (due, inl none, written)) missing = none.none_begun
+none_begun left faults told words opener_before opener_after ends status old new sink_before sink_after (inl (due, inr (names, named, inl unopened), written)) missing = unopened.none_begun
+none_begun left faults told words opener_before opener_after ends status old new sink_before sink_after (inl (due, inr (names, named, inr (enough, run)), written)) missing = absurd (lacks told words names missing named enough)
