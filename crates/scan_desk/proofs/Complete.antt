@@ -9,7 +9,6 @@ use Rattle.std.proofs.lemmas.List.{get_or_append_left}
 use Rattle.std.proofs.Math.Seq.{get_or-append_seam}
 use Rattle.std.proofs.lemmas.List.Elements.{recursion_from_All}
 use Rattle.std.proofs.lemmas.Slice.Eq.{bytes_eq-Decides}
-use Rattle.desk_io.specs.Opener.{Told}
 use Rattle.feed_definitions.specs.Lines.{ended_lines, unended}
 use Rattle.feed_definitions.specs.Plain.{FeedStep, NotPlain, Ended, steps, line_steps, ending}
 use Rattle.feed_definitions.specs.Answered.{book_in, book_of_step, book_named}
@@ -22,7 +21,7 @@ use Rattle.scan_desk.specs.Told.{told_bytes}
 use Rattle.scan_desk.specs.Feeds.{is_among, StopsSo}
 use Rattle.scan_desk.specs.Readings.{AreReadSo, StopsAtLast}
 use Rattle.scan_desk.specs.PlainFeeds.{IsPlainText, HaveTexts, NamePlainFeeds}
-use Rattle.scan_desk.specs.Desk.{Due, IsDueAfter, IsCourse, HasNoFault}
+use Rattle.scan_desk.specs.Desk.{OpenerSeen, SinkSeen, Due, IsDueAfter, IsCourse, HasNoFault}
 
 -- the last step
 abbrev last_step : List FeedStep → Option FeedStep
@@ -157,17 +156,17 @@ due_at_end stops.NotBuilt ends texts due e h = let f : stops.NotBuilt ≡ stops.
 due_at_end stops.NoMemory ends texts due e h = absurd h
 
 -- plain feeds are reported, unless something fails or memory is wanting
-pub complete : {S : Type 0} (left : S → Option (List ℕ)) (faults : S → ℕ) (told : Told) (words : List (List ℕ)) (opener_before opener_after : ℕ) (ends : List (FeedEnd S)) (status : ℕ) (old new : Option (List ℕ)) (sink_before sink_after : ℕ)
-    → IsCourse left faults told words opener_before opener_after ends status old new sink_before sink_after → NamePlainFeeds told words → HasNoFault faults opener_before opener_after ends sink_before sink_after → (status ≡ 0) ⊎ (status ≡ 7)
-complete left faults told words opener_before opener_after ends status old new sink_before sink_after (inr cut) plain none = inr cut.0
-complete left faults told words opener_before opener_after ends status old new sink_before sink_after (inl (due, is_due, inr broken)) plain none = absurd (none.sink broken.2)
-complete left faults told words opener_before opener_after ends status old new sink_before sink_after (inl (due, inl no_words, inl written)) plain none = absurd (some_or_none (named_feeds words) plain.names plain.named no_words.words_are)
-complete left faults told words opener_before opener_after ends status old new sink_before sink_after (inl (due, inr (names, named, inl unopened), inl written)) plain none = absurd (none.opener unopened.fault)
-complete {S} left faults told words opener_before opener_after ends status old new sink_before sink_after (inl (due, inr (names, named, inr (enough, run)), inl written)) plain none =
+pub complete : {S : Type 0} (left : S → Option (List ℕ)) (faults : S → ℕ) (opener : OpenerSeen) (words : List (List ℕ)) (ends : List (FeedEnd S)) (status : ℕ) (sink : SinkSeen)
+    → IsCourse left faults opener words ends status sink → NamePlainFeeds opener.told words → HasNoFault faults opener ends sink → (status ≡ 0) ⊎ (status ≡ 7)
+complete left faults opener words ends status sink (inr cut) plain none = inr cut.0
+complete left faults opener words ends status sink (inl (due, is_due, inr broken)) plain none = absurd (none.written broken.2)
+complete left faults opener words ends status sink (inl (due, inl no_words, inl written)) plain none = absurd (some_or_none (named_feeds words) plain.names plain.named no_words.words_are)
+complete left faults opener words ends status sink (inl (due, inr (names, named, inl unopened), inl written)) plain none = absurd (none.opened unopened.fault)
+complete {S} left faults opener words ends status sink (inl (due, inr (names, named, inr (enough, run)), inl written)) plain none =
     let both : Some plain.names ≡ Some names = sym plain.named ∙ named in
     let same : plain.names ≡ names = cc in
-    let P : List (List ℕ) → Type 0 = λ ns. HaveTexts (told_bytes told ns) 0 plain.texts in
+    let P : List (List ℕ) → Type 0 = λ ns. HaveTexts (told_bytes opener.told ns) 0 plain.texts in
     let few : length ends ≤ length plain.texts = omega (arith, run.few, plain.each, ap (λ (ns : List (List ℕ)). length ns) same) in
     inl (written.0 ∙ due_at_end run.stop ends run.texts due
-    (all_at_end left faults (told_bytes told names) [] 0 ends run.texts plain.texts run.stop run.read run.stop_is few (subst P same plain.are_told) (recursion_from_All IsPlainText plain.texts plain.plain)
-    (fresh_from [] plain.texts plain.distinct) (recursion_from_All (λ (end : FeedEnd S). faults end.source ≡ 0) ends none.sources)) run.due_is)
+    (all_at_end left faults (told_bytes opener.told names) [] 0 ends run.texts plain.texts run.stop run.read run.stop_is few (subst P same plain.are_told) (recursion_from_All IsPlainText plain.texts plain.plain)
+    (fresh_from [] plain.texts plain.distinct) (recursion_from_All (λ (end : FeedEnd S). faults end.source ≡ 0) ends none.read)) run.due_is)

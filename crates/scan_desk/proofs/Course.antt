@@ -15,7 +15,7 @@ use Rattle.std.specs.Str.{bytes_eq}
 use Rattle.std.proofs.lemmas.Bool.Decides.{nat_tests}
 use Rattle.scan_desk.specs.Words.{named_feeds, is_feed_name}
 use Rattle.scan_desk.specs.Readings.{AreReadSo, AreRead}
-use Rattle.scan_desk.specs.Desk.{Due, IsDueAfter, IsWritten, IsCutRun, IsCourse, IsCourseOfRun}
+use Rattle.scan_desk.specs.Desk.{OpenerSeen, SinkSeen, sink_seen, Due, IsDueAfter, IsWritten, IsCutRun, IsCourse, IsCourseOfRun}
 use Rattle.scan_desk.specs.Told.{told_bytes, HasSources}
 use Rattle.scan_desk.specs.Texts.{cannot_be_opened}
 use Rattle.desk_io.specs.Faults.{Rose}
@@ -40,11 +40,11 @@ few_names (command ∷ others) names e =
 
 -- what was written after the feeds were read
 pub course_of_run : {S : Type 0} (left : S → Option (List ℕ)) (faults : S → ℕ) (told : ℕ → Option (List ℕ)) (count : ℕ) (ends : List (FeedEnd S)) (feeds : List ReadFeed) (stop : FeedStop) (status answer : ℕ) (text : Result (Vec ℕ Global) WantOfMemory)
-    (old new : Option (List ℕ)) (sink_before sink_after : ℕ) → AreRead left faults told count ends feeds stop
+    (sink : SinkSeen) → AreRead left faults told count ends feeds stop
     → ((texts : List (List ℕ)) → (stop ≡ stops.End → map feed_part feeds ≡ map part_of texts) → IfOk text (λ t. IsDueAfter stop ends texts (record { status = status; text = t.items })))
-    → MatchResult text (λ t. IsWritten (record { status = status; text = t.items }) answer old new sink_before sink_after) (λ _. (answer ≡ 7) × Keeps old new)
-    → IsCourseOfRun left faults told count ends answer old new sink_before sink_after
-course_of_run left faults told count ends feeds stop status answer (Ok text) old new sink_before sink_after read due written =
+    → MatchResult text (λ t. IsWritten (record { status = status; text = t.items }) answer sink) (λ _. (answer ≡ 7) × Keeps sink.written_before sink.written_after)
+    → IsCourseOfRun left faults told count ends answer sink
+course_of_run left faults told count ends feeds stop status answer (Ok text) sink read due written =
     inl (
       record { status = status; text = text.items },
       record {
@@ -58,7 +58,7 @@ course_of_run left faults told count ends feeds stop status answer (Ok text) old
       },
       written,
     )
-course_of_run left faults told count ends feeds stop status answer (Err _) old new sink_before sink_after read due written =
+course_of_run left faults told count ends feeds stop status answer (Err _) sink read due written =
     inr (written.0, written.1, record { texts = read.texts; read = read.read; few = read.few; last = inr (stop, read.stop_is, λ e. (read.whole e).0) })
 
 -- no feed was begun
@@ -71,27 +71,27 @@ none_begun left faults told count ends e = record {
 }
 
 -- what is left as it was keeps what was written
-pub written_kept : {K : Type 0} (text : Result (Vec ℕ Global) WantOfMemory) (status answer : ℕ) (written : K → Option (List ℕ)) (before after : K) (sink_before sink_after : ℕ)
-    → MatchResult text (λ t. IsWritten (record { status = status; text = t.items }) answer (written before) (written after) sink_before sink_after) (λ _. (answer ≡ 7) × (after ≡ before))
-    → MatchResult text (λ t. IsWritten (record { status = status; text = t.items }) answer (written before) (written after) sink_before sink_after) (λ _. (answer ≡ 7) × Keeps (written before) (written after))
-written_kept (Ok text) status answer written before after sink_before sink_after h = h
-written_kept (Err _) status answer written before after sink_before sink_after h =
+pub written_kept : {K : Type 0} (text : Result (Vec ℕ Global) WantOfMemory) (status answer : ℕ) (written : K → Option (List ℕ)) (faults : K → ℕ) (before after : K)
+    → MatchResult text (λ t. IsWritten (record { status = status; text = t.items }) answer (sink_seen written faults before after)) (λ _. (answer ≡ 7) × (after ≡ before))
+    → MatchResult text (λ t. IsWritten (record { status = status; text = t.items }) answer (sink_seen written faults before after)) (λ _. (answer ≡ 7) × Keeps (written before) (written after))
+written_kept (Ok text) status answer written faults before after h = h
+written_kept (Err _) status answer written faults before after h =
     (h.0, let P : Option (List ℕ) → Type 0 = λ o. Keeps (written before) o in subst P (sym (ap written h.1)) (Keeps-refl (written before)))
 
 -- the course where a feed was not opened
-pub course_unopened : {S : Type 0} (left : S → Option (List ℕ)) (faults : S → ℕ) (told : List ℕ → Option (List (List ℕ))) (words names : List (List ℕ)) (opener_before opener_after feed : ℕ) (ends : List (FeedEnd S)) (answer : ℕ) (text : Result (Vec ℕ Global) WantOfMemory)
-    (old new : Option (List ℕ)) (sink_before sink_after : ℕ) → named_feeds words ≡ Some names → (feed < length names) × Rose opener_before opener_after → ends ≡ [] → IfOk text (λ t. t.items ≡ cannot_be_opened feed)
-    → MatchResult text (λ t. IsWritten (record { status = 3; text = t.items }) answer old new sink_before sink_after) (λ _. (answer ≡ 7) × Keeps old new)
-    → IsCourse left faults told words opener_before opener_after ends answer old new sink_before sink_after
-course_unopened left faults told words names opener_before opener_after feed ends answer (Ok text) old new sink_before sink_after named fault none line written =
+pub course_unopened : {S : Type 0} (left : S → Option (List ℕ)) (faults : S → ℕ) (opener : OpenerSeen) (words names : List (List ℕ)) (feed : ℕ) (ends : List (FeedEnd S)) (answer : ℕ) (text : Result (Vec ℕ Global) WantOfMemory)
+    (sink : SinkSeen) → named_feeds words ≡ Some names → (feed < length names) × Rose opener.faults_before opener.faults_after → ends ≡ [] → IfOk text (λ t. t.items ≡ cannot_be_opened feed)
+    → MatchResult text (λ t. IsWritten (record { status = 3; text = t.items }) answer sink) (λ _. (answer ≡ 7) × Keeps sink.written_before sink.written_after)
+    → IsCourse left faults opener words ends answer sink
+course_unopened left faults opener words names feed ends answer (Ok text) sink named fault none line written =
     let mk : List ℕ → Due = λ t. record { status = 3; text = t } in
     inl (mk text.items, inr (names, named, inl (record { feed = feed; is_named = fault.0; fault = fault.1; none_begun = none; due_is = ap mk line })), written)
-course_unopened left faults told words names opener_before opener_after feed ends answer (Err _) old new sink_before sink_after named fault none line written =
-    inr (written.0, written.1, names, named, inl none, none_begun left faults (told_bytes told names) (length names) ends none)
+course_unopened left faults opener words names feed ends answer (Err _) sink named fault none line written =
+    inr (written.0, written.1, names, named, inl none, none_begun left faults (told_bytes opener.told names) (length names) ends none)
 
 -- the course where the feeds were opened
-pub course_of_names : {S : Type 0} (left : S → Option (List ℕ)) (faults : S → ℕ) (told : List ℕ → Option (List (List ℕ))) (words names : List (List ℕ)) (opener_before opener_after : ℕ) (ends : List (FeedEnd S)) (answer : ℕ)
-    (old new : Option (List ℕ)) (sink_before sink_after : ℕ) → named_feeds words ≡ Some names → HasSources told names → IsCourseOfRun left faults (told_bytes told names) (length names) ends answer old new sink_before sink_after
-    → IsCourse left faults told words opener_before opener_after ends answer old new sink_before sink_after
-course_of_names left faults told words names opener_before opener_after ends answer old new sink_before sink_after named enough (inl run) = inl (run.0, inr (names, named, inr (enough, run.1)), run.2)
-course_of_names left faults told words names opener_before opener_after ends answer old new sink_before sink_after named enough (inr cut) = inr (cut.0, cut.1, names, named, inr enough, cut.2)
+pub course_of_names : {S : Type 0} (left : S → Option (List ℕ)) (faults : S → ℕ) (opener : OpenerSeen) (words names : List (List ℕ)) (ends : List (FeedEnd S)) (answer : ℕ)
+    (sink : SinkSeen) → named_feeds words ≡ Some names → HasSources opener.told names → IsCourseOfRun left faults (told_bytes opener.told names) (length names) ends answer sink
+    → IsCourse left faults opener words ends answer sink
+course_of_names left faults opener words names ends answer sink named enough (inl run) = inl (run.0, inr (names, named, inr (enough, run.1)), run.2)
+course_of_names left faults opener words names ends answer sink named enough (inr cut) = inr (cut.0, cut.1, names, named, inr enough, cut.2)

@@ -4,7 +4,7 @@ use Rattle.desk_io.specs.Opener.{Told, times}
 use Rattle.scan_desk.specs.declared.feed_end.FeedEnd.{FeedEnd}
 use Rattle.scan_desk.specs.Words.{named_feeds}
 use Rattle.scan_desk.specs.Told.{HasSources, NameMissingFeed}
-use Rattle.scan_desk.specs.Desk.{IsCourse, IsOrYields}
+use Rattle.scan_desk.specs.Desk.{OpenerSeen, SinkSeen, IsCourse, IsOrYields}
 
 too_few : (told : Option (List (List ℕ))) (sources : List (List ℕ)) (count : ℕ) → told ≡ Some sources → IfSome told (λ xs. count ≤ length xs) → length sources < count → ⊥
 too_few told sources count e enough few =
@@ -23,19 +23,19 @@ lacks told words names missing named enough =
 some_or_none : (told : Told) (words : List (List ℕ)) → NameMissingFeed told words → named_feeds words ≡ None → ⊥
 some_or_none told words missing none = let wrong = sym missing.named ∙ none in absurd (cc)
 
-pub not_opened_due : {S : Type 0} (left : S → Option (List ℕ)) (faults : S → ℕ) (told : Told) (words : List (List ℕ)) (opener_before opener_after : ℕ) (ends : List (FeedEnd S)) (status : ℕ) (old new : Option (List ℕ)) (sink_before sink_after : ℕ)
-    → IsCourse left faults told words opener_before opener_after ends status old new sink_before sink_after → NameMissingFeed told words → IsOrYields 3 status
-not_opened_due left faults told words opener_before opener_after ends status old new sink_before sink_after (inr cut) missing = inr (inr cut.0)
-not_opened_due left faults told words opener_before opener_after ends status old new sink_before sink_after (inl (due, is_due, inr broken)) missing = inr (inl broken.0)
-not_opened_due left faults told words opener_before opener_after ends status old new sink_before sink_after (inl (due, inl none, inl written)) missing = absurd (some_or_none told words missing none.words_are)
-not_opened_due left faults told words opener_before opener_after ends status old new sink_before sink_after (inl (due, inr (names, named, inl unopened), inl written)) missing =
+pub not_opened_due : {S : Type 0} (left : S → Option (List ℕ)) (faults : S → ℕ) (opener : OpenerSeen) (words : List (List ℕ)) (ends : List (FeedEnd S)) (status : ℕ) (sink : SinkSeen)
+    → IsCourse left faults opener words ends status sink → NameMissingFeed opener.told words → IsOrYields 3 status
+not_opened_due left faults opener words ends status sink (inr cut) missing = inr (inr cut.0)
+not_opened_due left faults opener words ends status sink (inl (due, is_due, inr broken)) missing = inr (inl broken.0)
+not_opened_due left faults opener words ends status sink (inl (due, inl none, inl written)) missing = absurd (some_or_none opener.told words missing none.words_are)
+not_opened_due left faults opener words ends status sink (inl (due, inr (names, named, inl unopened), inl written)) missing =
     inl (written.0 ∙ ap (λ d. d.status) unopened.due_is)
-not_opened_due left faults told words opener_before opener_after ends status old new sink_before sink_after (inl (due, inr (names, named, inr (enough, run)), inl written)) missing = absurd (lacks told words names missing named enough)
+not_opened_due left faults opener words ends status sink (inl (due, inr (names, named, inr (enough, run)), inl written)) missing = absurd (lacks opener.told words names missing named enough)
 
-pub none_begun : {S : Type 0} (left : S → Option (List ℕ)) (faults : S → ℕ) (told : Told) (words : List (List ℕ)) (opener_before opener_after : ℕ) (ends : List (FeedEnd S)) (status : ℕ) (old new : Option (List ℕ)) (sink_before sink_after : ℕ)
-    → IsCourse left faults told words opener_before opener_after ends status old new sink_before sink_after → NameMissingFeed told words → ends ≡ []
-none_begun left faults told words opener_before opener_after ends status old new sink_before sink_after (inr (seven, kept, names, named, inl none, run)) missing = none
-none_begun left faults told words opener_before opener_after ends status old new sink_before sink_after (inr (seven, kept, names, named, inr enough, run)) missing = absurd (lacks told words names missing named enough)
-none_begun left faults told words opener_before opener_after ends status old new sink_before sink_after (inl (due, inl none, written)) missing = none.none_begun
-none_begun left faults told words opener_before opener_after ends status old new sink_before sink_after (inl (due, inr (names, named, inl unopened), written)) missing = unopened.none_begun
-none_begun left faults told words opener_before opener_after ends status old new sink_before sink_after (inl (due, inr (names, named, inr (enough, run)), written)) missing = absurd (lacks told words names missing named enough)
+pub none_begun : {S : Type 0} (left : S → Option (List ℕ)) (faults : S → ℕ) (opener : OpenerSeen) (words : List (List ℕ)) (ends : List (FeedEnd S)) (status : ℕ) (sink : SinkSeen)
+    → IsCourse left faults opener words ends status sink → NameMissingFeed opener.told words → ends ≡ []
+none_begun left faults opener words ends status sink (inr (seven, kept, names, named, inl none, run)) missing = none
+none_begun left faults opener words ends status sink (inr (seven, kept, names, named, inr enough, run)) missing = absurd (lacks opener.told words names missing named enough)
+none_begun left faults opener words ends status sink (inl (due, inl none, written)) missing = none.none_begun
+none_begun left faults opener words ends status sink (inl (due, inr (names, named, inl unopened), written)) missing = unopened.none_begun
+none_begun left faults opener words ends status sink (inl (due, inr (names, named, inr (enough, run)), written)) missing = absurd (lacks opener.told words names missing named enough)

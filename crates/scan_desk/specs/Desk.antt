@@ -1,7 +1,9 @@
 -- What a run of the desk does.
-use Rattle.std.specs.Prelude.{ℕ, ◌≡◌, ◌<◌, ◌≤◌, ◌+◌, ◌-◌, ◌⊎◌, List, [], length, map, Option, None, Some, All, IsSomeAnd, slice_get}
+use Rattle.std.specs.Prelude.{ℕ, ◌≡◌, ◌<◌, ◌≤◌, ◌+◌, ◌-◌, ◌⊎◌, List, [], length, map, Option, None}
+use Rattle.std.specs.Prelude.{Some, All, IsSomeAnd, slice_get}
 use Rattle.std.specs.Io.KnownBytes.{Appends, Keeps}
 use Rattle.desk_io.specs.Faults.{Rose}
+use Rattle.desk_io.specs.Opener.{Told}
 use Rattle.desk_io.specs.Sink.{AppendsPrefix}
 use Rattle.report_definitions.specs.declared.match_part.MatchPart.{MatchPart}
 use Rattle.report_definitions.specs.Standing.{FeedPart}
@@ -20,14 +22,39 @@ use Rattle.scan_desk.specs.Readings.{AreReadSo, StopsAtLast}
 abbrev pub default_pivots : ℕ
 default_pivots = 4096
 
--- the report of these feeds: each match that a feed quoted has the sheet of what stands on it and the finding of that sheet, and each
--- verdict is right at every final score and every abandonment
+-- the report of these feeds: each match that a feed quoted has the sheet of what stands on it and the finding of that sheet,
+-- and each verdict is right at every final score and every abandonment
 pub record IsReport (feeds : List FeedPart) (report : List ℕ) : Type 0 where
   pub matches : List MatchPart
   pub quoted : AreMatchesOf feeds matches
   pub found : All (λ part. IsFirstFinding part.sheet part.finding) matches
   pub right : All (λ part. IsRightFirst part.sheet part.finding) matches
   pub text : report ≡ report_text default_pivots feeds matches
+
+-- what a run sees of its opener: what it tells of its sources before, and its counts of failed openings before and after
+pub record OpenerSeen : Type 0 where
+  pub told : Told
+  pub faults_before : ℕ
+  pub faults_after : ℕ
+
+abbrev pub opener_seen : {O : Type 0} → (O → Told) → (O → ℕ) → O → O → OpenerSeen
+opener_seen told faults before after = record { told = told before; faults_before = faults before; faults_after = faults after }
+
+-- what a run sees of its sink: what it tells as written, and its counts of failed writes, before and after
+pub record SinkSeen : Type 0 where
+  pub written_before : Option (List ℕ)
+  pub written_after : Option (List ℕ)
+  pub faults_before : ℕ
+  pub faults_after : ℕ
+
+abbrev pub sink_seen : {K : Type 0} → (K → Option (List ℕ)) → (K → ℕ) → K → K → SinkSeen
+sink_seen written faults before after =
+    record {
+      written_before = written before;
+      written_after = written after;
+      faults_before = faults before;
+      faults_after = faults after;
+    }
 
 -- what a run has to write, and the status that goes with it
 pub record Due : Type 0 where
@@ -41,10 +68,11 @@ pub record IsNoCommand {S : Type 0} (words : List (List ℕ)) (ends : List (Feed
   pub due_is : due ≡ record { status = 2; text = no_command }
 
 -- a feed could not be opened, and the opener's count of faults rose
-pub record IsNotOpened {S : Type 0} (names : List (List ℕ)) (faults_before faults_after : ℕ) (ends : List (FeedEnd S)) (due : Due) : Type 0 where
+pub record IsNotOpened {S : Type 0} (names : List (List ℕ)) (opener : OpenerSeen) (ends : List (FeedEnd S)) (due : Due)
+    : Type 0 where
   pub feed : ℕ
   pub is_named : feed < length names
-  pub fault : Rose faults_before faults_after
+  pub fault : Rose opener.faults_before opener.faults_after
   pub none_begun : ends ≡ []
   pub due_is : due ≡ record { status = 3; text = cannot_be_opened feed }
 
@@ -53,11 +81,13 @@ abbrev pub IsDueAfter : {S : Type 0} → FeedStop → List (FeedEnd S) → List 
 IsDueAfter stops.End ends texts due = (due.status ≡ 0) × IsReport (map part_of texts) due.text
 IsDueAfter stops.ReadFault ends texts due = due ≡ record { status = 4; text = cannot_be_read (length ends - 1) }
 IsDueAfter stops.NotBuilt ends texts due =
-    IsSomeAnd (slice_get ends (length ends - 1)) (λ end. due ≡ record { status = 11; text = is_not_built (length ends - 1) (end.lines + 1) })
+    IsSomeAnd (slice_get ends (length ends - 1))
+    (λ end. due ≡ record { status = 11; text = is_not_built (length ends - 1) (end.lines + 1) })
 IsDueAfter stops.NoMemory ends texts due = ⊥
 
 -- so many feeds were opened, and those of them that were begun were read so: all of them where the last stopped at its end
-pub record IsRun {S : Type 0} (left : S → Option (List ℕ)) (faults : S → ℕ) (told : ℕ → Option (List ℕ)) (count : ℕ) (ends : List (FeedEnd S)) (due : Due) : Type 0 where
+pub record IsRun {S : Type 0} (left : S → Option (List ℕ)) (faults : S → ℕ) (told : ℕ → Option (List ℕ)) (count : ℕ)
+    (ends : List (FeedEnd S)) (due : Due) : Type 0 where
   pub texts : List (List ℕ)
   pub read : AreReadSo left faults told [] 0 ends texts
   pub stop : FeedStop
@@ -68,38 +98,47 @@ pub record IsRun {S : Type 0} (left : S → Option (List ℕ)) (faults : S → �
 
 -- what is due for these words, with what an opener told and what its count of faults did: feeds are read only where it has a
 -- source for each of them
-abbrev pub IsDue : {S : Type 0} → (S → Option (List ℕ)) → (S → ℕ) → (List ℕ → Option (List (List ℕ))) → List (List ℕ) → ℕ → ℕ → List (FeedEnd S) → Due → Type 0
-IsDue left faults told words faults_before faults_after ends due =
-    IsNoCommand words ends due ⊎ ((names : List (List ℕ)) × (named_feeds words ≡ Some names)
-    × (IsNotOpened names faults_before faults_after ends due ⊎ (HasSources told names × IsRun left faults (told_bytes told names) (length names) ends due)))
+abbrev pub IsDue : {S : Type 0} → (S → Option (List ℕ)) → (S → ℕ) → OpenerSeen → List (List ℕ) → List (FeedEnd S) → Due → Type 0
+IsDue left faults opener words ends due =
+    IsNoCommand words ends due
+    ⊎ ((names : List (List ℕ)) × (named_feeds words ≡ Some names) × (IsNotOpened names opener ends due
+    ⊎ (HasSources opener.told names × IsRun left faults (told_bytes opener.told names) (length names) ends due)))
 
 -- what was due was written; or a write failed after a part of it, and the status is 5
-abbrev pub IsWritten : Due → ℕ → Option (List ℕ) → Option (List ℕ) → ℕ → ℕ → Type 0
-IsWritten due status old new faults_before faults_after =
-    ((status ≡ due.status) × Appends old new due.text) ⊎ ((status ≡ 5) × AppendsPrefix old new due.text × Rose faults_before faults_after)
+abbrev pub IsWritten : Due → ℕ → SinkSeen → Type 0
+IsWritten due status sink =
+    ((status ≡ due.status) × Appends sink.written_before sink.written_after due.text)
+    ⊎ ((status ≡ 5) × AppendsPrefix sink.written_before sink.written_after due.text × Rose sink.faults_before sink.faults_after)
 
--- memory was wanting: so many feeds were to be read, and those of them that were begun were read so; where the last of these stopped at
--- its end, all were
-pub record IsCutRun {S : Type 0} (left : S → Option (List ℕ)) (faults : S → ℕ) (told : ℕ → Option (List ℕ)) (count : ℕ) (ends : List (FeedEnd S)) : Type 0 where
+-- memory was wanting: so many feeds were to be read, and those of them that were begun were read so; where the last of these
+-- stopped at its end, all were
+pub record IsCutRun {S : Type 0} (left : S → Option (List ℕ)) (faults : S → ℕ) (told : ℕ → Option (List ℕ)) (count : ℕ)
+    (ends : List (FeedEnd S)) : Type 0 where
   pub texts : List (List ℕ)
   pub read : AreReadSo left faults told [] 0 ends texts
   pub few : length ends ≤ count
   pub last : (ends ≡ []) ⊎ ((stop : FeedStop) × StopsAtLast stop ends × (stop ≡ stops.End → length ends ≡ count))
 
--- what a run does: what is due is written; or the words name feeds, memory was wanting, the status is 7, and nothing is written; feeds
--- were begun only where the opener has a source for each of them
-abbrev pub IsCourse : {S : Type 0} → (S → Option (List ℕ)) → (S → ℕ) → (List ℕ → Option (List (List ℕ))) → List (List ℕ) → ℕ → ℕ → List (FeedEnd S) → ℕ → Option (List ℕ) → Option (List ℕ) → ℕ → ℕ → Type 0
-IsCourse left faults told words opener_before opener_after ends status old new sink_before sink_after =
-    ((due : Due) × IsDue left faults told words opener_before opener_after ends due × IsWritten due status old new sink_before sink_after)
-    ⊎ ((status ≡ 7) × Keeps old new × (names : List (List ℕ)) × (named_feeds words ≡ Some names) × ((ends ≡ []) ⊎ HasSources told names) × IsCutRun left faults (told_bytes told names) (length names) ends)
+-- what a run does: what is due is written; or the words name feeds, memory was wanting, the status is 7, and nothing is written;
+-- feeds were begun only where the opener has a source for each of them
+abbrev pub IsCourse : {S : Type 0} → (S → Option (List ℕ)) → (S → ℕ) → OpenerSeen → List (List ℕ) →
+    List (FeedEnd S) → ℕ → SinkSeen → Type 0
+IsCourse left faults opener words ends status sink =
+    ((due : Due) × IsDue left faults opener words ends due × IsWritten due status sink)
+    ⊎ ((status ≡ 7) × Keeps sink.written_before sink.written_after × (names : List (List ℕ)) × (named_feeds words ≡ Some names)
+    × ((ends ≡ []) ⊎ HasSources opener.told names) × IsCutRun left faults (told_bytes opener.told names) (length names) ends)
 
 -- the same after the feeds were opened
-abbrev pub IsCourseOfRun : {S : Type 0} → (S → Option (List ℕ)) → (S → ℕ) → (ℕ → Option (List ℕ)) → ℕ → List (FeedEnd S) → ℕ → Option (List ℕ) → Option (List ℕ) → ℕ → ℕ → Type 0
-IsCourseOfRun left faults told count ends status old new sink_before sink_after =
-    ((due : Due) × IsRun left faults told count ends due × IsWritten due status old new sink_before sink_after) ⊎ ((status ≡ 7) × Keeps old new × IsCutRun left faults told count ends)
+abbrev pub IsCourseOfRun : {S : Type 0} → (S → Option (List ℕ)) → (S → ℕ) → (ℕ → Option (List ℕ)) → ℕ →
+    List (FeedEnd S) → ℕ → SinkSeen → Type 0
+IsCourseOfRun left faults told count ends status sink =
+    ((due : Due) × IsRun left faults told count ends due × IsWritten due status sink)
+    ⊎ ((status ≡ 7) × Keeps sink.written_before sink.written_after × IsCutRun left faults told count ends)
 
 -- every named feed was read to its end, and the sink got the report of what was read
-pub record IsReported {S : Type 0} (left : S → Option (List ℕ)) (faults : S → ℕ) (told : List ℕ → Option (List (List ℕ))) (words : List (List ℕ)) (ends : List (FeedEnd S)) (old new : Option (List ℕ)) : Type 0 where
+pub record IsReported {S : Type 0} (left : S → Option (List ℕ)) (faults : S → ℕ)
+    (told : List ℕ → Option (List (List ℕ))) (words : List (List ℕ)) (ends : List (FeedEnd S))
+    (old new : Option (List ℕ)) : Type 0 where
   pub names : List (List ℕ)
   pub named : named_feeds words ≡ Some names
   pub all_read : length ends ≡ length names
@@ -119,7 +158,8 @@ abbrev pub HasNotRisen : ℕ → ℕ → Type 0
 HasNotRisen old new = Rose old new → ⊥
 
 -- no opening failed, no read of the feeds that were begun and no write
-pub record HasNoFault {S : Type 0} (faults : S → ℕ) (opener_before opener_after : ℕ) (ends : List (FeedEnd S)) (sink_before sink_after : ℕ) : Type 0 where
-  pub opener : HasNotRisen opener_before opener_after
-  pub sources : All (λ end. faults end.source ≡ 0) ends
-  pub sink : HasNotRisen sink_before sink_after
+pub record HasNoFault {S : Type 0} (faults : S → ℕ) (opener : OpenerSeen) (ends : List (FeedEnd S)) (sink : SinkSeen) :
+    Type 0 where
+  pub opened : HasNotRisen opener.faults_before opener.faults_after
+  pub read : All (λ end. faults end.source ≡ 0) ends
+  pub written : HasNotRisen sink.faults_before sink.faults_after

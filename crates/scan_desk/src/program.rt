@@ -9,7 +9,7 @@ ghost use Rattle.scan_desk.specs.Words.{named_feeds};
 ghost use Rattle.scan_desk.specs.Told.{NameMissingFeed};
 ghost use Rattle.scan_desk.specs.PlainFeeds.{NamePlainFeeds};
 ghost use Rattle.scan_desk.specs.Readings.{StopsAtLast};
-ghost use Rattle.scan_desk.specs.Desk.{IsCourse, IsCourseOfRun, IsReported, IsOrYields, HasNoFault};
+ghost use Rattle.scan_desk.specs.Desk.{opener_seen, sink_seen, IsCourse, IsCourseOfRun, IsReported, IsOrYields, HasNoFault};
 
 use crate::ending::due;
 use crate::feed_end::{FeedEnd, FeedStop};
@@ -42,7 +42,8 @@ fn read_and_write<S: Source + Drop, K: Sink>(
     requires few { deque_len sources ≤ 8 }
     requires opened { AreOpened S.left S.faults (λ _. None) 0 sources.items }
     ensures { (told : ℕ → Option (List ℕ)) → AreOpened S.left S.faults told 0 sources.items →
-        IsCourseOfRun S.left S.faults told (deque_len sources) result.feeds.items result.status (K.written sink.old) (K.written sink.new) (K.faults sink.old) (K.faults sink.new) }
+        IsCourseOfRun S.left S.faults told (deque_len sources) result.feeds.items result.status
+        (sink_seen K.written K.faults sink.old sink.new) }
 {
     match read_all(alloc, sources) {
         Err(_) => DeskEnd {
@@ -68,8 +69,8 @@ fn run<O: Opener, K: Sink>(
     opener: &mut O,
     sink: &mut K,
 ) -> DeskEnd<O::S>
-    ensures { IsCourse O.S.left O.S.faults (O.told opener.old) (map string_bytes words.now) (O.faults opener.old) (O.faults opener.new)
-        result.feeds.items result.status (K.written sink.old) (K.written sink.new) (K.faults sink.old) (K.faults sink.new) }
+    ensures { IsCourse O.S.left O.S.faults (opener_seen O.told O.faults opener.old opener.new)
+        (map string_bytes words.now) result.feeds.items result.status (sink_seen K.written K.faults sink.old sink.new) }
 {
     let Some(names) = named_feeds(words) else {
         return DeskEnd {
@@ -90,12 +91,12 @@ fn run<O: Opener, K: Sink>(
     }
 }
 
-/// Runs the command that the words name. `once FEED` or `once FEED FEED` opens the feeds in order, reads them one after another, each to
-/// its end or to the first step that stops it before, and writes their report; or one error line, with the status of its cause; or, at
-/// want of memory, nothing.
+/// Runs the command that the words name. `once FEED` or `once FEED FEED` opens the feeds in order, reads them one after another,
+/// each to its end or to the first step that stops it before, and writes their report; or one error line, with the status of its
+/// cause; or, at want of memory, nothing.
 ///
-/// Takes time in the bytes of the feeds and, for each accepted line, in the number of match names of its feed, at most 256, and in the
-/// logarithm of the number of all matches; and memory for the bytes that are read, the accepted lines and the report.
+/// Takes time in the bytes of the feeds and, for each accepted line, in the number of match names of its feed, at most 256, and
+/// in the logarithm of the number of all matches; and memory for the bytes that are read, the accepted lines and the report.
 pub fn desk<O: Opener, K: Sink>(
     alloc: Global,
     words: &[String],
@@ -103,20 +104,22 @@ pub fn desk<O: Opener, K: Sink>(
     sink: &mut K,
 ) -> DeskEnd<O::S>
     // What a run does, whole: what is due for these words and feeds, and how it was written.
-    ensures course { IsCourse O.S.left O.S.faults (O.told opener.old) (map string_bytes words.now) (O.faults opener.old) (O.faults opener.new)
-        result.feeds.items result.status (K.written sink.old) (K.written sink.new) (K.faults sink.old) (K.faults sink.new) }
+    ensures course { IsCourse O.S.left O.S.faults (opener_seen O.told O.faults opener.old opener.new)
+        (map string_bytes words.now) result.feeds.items result.status (sink_seen K.written K.faults sink.old sink.new) }
 
     // Status 0 comes only where each named feed was read to its end; the sink then got the report of what the sources gave.
     ensures done { result.status ≡ 0 →
-        IsReported O.S.left O.S.faults (O.told opener.old) (map string_bytes words.now) result.feeds.items (K.written sink.old) (K.written sink.new) }
+        IsReported O.S.left O.S.faults (O.told opener.old) (map string_bytes words.now) result.feeds.items
+        (K.written sink.old) (K.written sink.new) }
 
     // The converse: plain feeds of distinct books have status 0, unless an opening, a read or a write fails or memory is wanting.
     ensures complete { NamePlainFeeds (O.told opener.old) (map string_bytes words.now) →
-        HasNoFault O.S.faults (O.faults opener.old) (O.faults opener.new) result.feeds.items (K.faults sink.old) (K.faults sink.new) → (result.status ≡ 0) ⊎ (result.status ≡ 7) }
+        HasNoFault O.S.faults (opener_seen O.told O.faults opener.old opener.new) result.feeds.items
+        (sink_seen K.written K.faults sink.old sink.new) → (result.status ≡ 0) ⊎ (result.status ≡ 7) }
 
-    // Each other status but 7 has its cause. Words that are no command, a named feed that the opener has no source for, a failed read
-    // and a line that is not built also have their status, unless a write fails or memory is wanting; words that are no command take
-    // none. All feeds are opened before the first is read: where one of them has no source, none is begun.
+    // Each other status but 7 has its cause. Words that are no command, a named feed that the opener has no source for, a failed
+    // read and a line that is not built also have their status, unless a write fails or memory is wanting; words that are no
+    // command take none. All feeds are opened before the first is read: where one of them has no source, none is begun.
     ensures no_command { result.status ≡ 2 → named_feeds (map string_bytes words.now) ≡ None }
     ensures no_command_due { named_feeds (map string_bytes words.now) ≡ None → (result.status ≡ 2) ⊎ (result.status ≡ 5) }
     ensures not_opened { result.status ≡ 3 → Rose (O.faults opener.old) (O.faults opener.new) }

@@ -5,7 +5,7 @@ use Rattle.report_definitions.specs.Standing.{feed_part}
 use Rattle.scan_desk.specs.declared.feed_end.FeedEnd.{FeedEnd}
 use Rattle.scan_desk.specs.declared.feed_end.FeedStop.TheVariants as stops
 use Rattle.scan_desk.specs.Feeds.{part_of}
-use Rattle.scan_desk.specs.Desk.{IsDueAfter}
+use Rattle.scan_desk.specs.Desk.{sink_seen, IsDueAfter}
 use Rattle.scan_desk.proofs.Course.{course_of_run, written_kept}
 use Rattle.scan_desk.proofs.program.read_and_write.Goals as goal
 
@@ -39,5 +39,5 @@ returns-in-Ok g c = λ told opened.
     let Q : List ReadFeed → Type 0 = λ feeds. (texts : List (List ℕ)) → (r.stop ≡ stops.End → map feed_part feeds ≡ map part_of texts) →
     IfOk c.due-status.result.1 (λ text. IsDueAfter r.stop r.ends.items texts (record { status = c.due-status.result.0; text = text.items })) in
     course_of_run g.S.Source.left g.S.Source.faults told (deque_len c.args.sources) r.ends.items r.feeds.items r.stop c.due-status.result.0 c.write_due-status.result c.due-status.result.1
-    (K.written before) (K.written after) (K.faults before) (K.faults after) (c.in-Ok.ensures told opened) (subst Q c.deref-in-Ok.ensures.value (subst P c.deref.ensures.value c.due-status.ensures))
-    (written_kept c.due-status.result.1 c.due-status.result.0 c.write_due-status.result K.written before after (K.faults before) (K.faults after) c.write_due-status.ensures)
+    (sink_seen K.written K.faults before after) (c.in-Ok.ensures told opened) (subst Q c.deref-in-Ok.ensures.value (subst P c.deref.ensures.value c.due-status.ensures))
+    (written_kept c.due-status.result.1 c.due-status.result.0 c.write_due-status.result K.written K.faults before after c.write_due-status.ensures)

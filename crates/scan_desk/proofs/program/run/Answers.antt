@@ -1,7 +1,7 @@
 use Rattle.std.proofs.Common.{ℕ, ◌≡◌, length, map, sym, subst, arith, deque_len, string_bytes, Global}
 use Rattle.std.proofs.lemmas.List.{length-map}
 use Rattle.scan_desk.specs.Told.{told_bytes}
-use Rattle.scan_desk.specs.Desk.{IsCourseOfRun}
+use Rattle.scan_desk.specs.Desk.{opener_seen, sink_seen, IsCourseOfRun}
 use Rattle.scan_desk.proofs.ReadAll.{untold}
 use Rattle.scan_desk.proofs.Course.{few_names, course_of_names, course_unopened, written_kept}
 use Rattle.scan_desk.proofs.program.run.Goals as goal
@@ -38,9 +38,9 @@ returns-in-Err-Feed g c =
     let before = c.args.sink.now in
     let after = c.write_due.new.sink in
     let cause = rw c.in-Err-Feed.field-0-is at c.in-Err-Feed.ensures.failed in
-    course_unopened S.left S.faults (g.O.Opener.told c.args.opener.now) words names (g.O.Opener.faults c.args.opener.now) (g.O.Opener.faults c.open_all.new.opener) c.in-Err-Feed.feed c.new-in-Err-Feed.result.items c.write_due.result c.cannot_be_opened.result
-    (K.written before) (K.written after) (K.faults before) (K.faults after) (sym c.in-Some.ensures) (omega (arith, cause, length-map c.in-Some.names.now (string_bytes {Z = Global})), cause.1) c.new-in-Err-Feed.ensures.items c.cannot_be_opened.ensures
-    (written_kept c.cannot_be_opened.result 3 c.write_due.result K.written before after (K.faults before) (K.faults after) c.write_due.ensures)
+    course_unopened S.left S.faults (opener_seen g.O.Opener.told g.O.Opener.faults c.args.opener.now c.open_all.new.opener) words names c.in-Err-Feed.feed c.new-in-Err-Feed.result.items c.write_due.result c.cannot_be_opened.result
+    (sink_seen K.written K.faults before after) (sym c.in-Some.ensures) (omega (arith, cause, length-map c.in-Some.names.now (string_bytes {Z = Global})), cause.1) c.new-in-Err-Feed.ensures.items c.cannot_be_opened.ensures
+    (written_kept c.cannot_be_opened.result 3 c.write_due.result K.written K.faults before after c.write_due.ensures)
 
 pub returns-in-Ok : goal.returns-in-Ok
 returns-in-Ok g c =
@@ -49,9 +49,8 @@ returns-in-Ok g c =
     let words = map (string_bytes {Z = Global}) c.args.words.now in
     let names = map (string_bytes {Z = Global}) c.in-Some.names.now in
     let told = g.O.Opener.told c.args.opener.now in
-    let before = c.args.sink.now in
-    let after = c.read_and_write.new.sink in
+    let sink = sink_seen K.written K.faults c.args.sink.now c.read_and_write.new.sink in
     let count : deque_len c.in-Ok.sources ≡ length names = omega (arith, c.in-Ok.ensures.each, length-map c.in-Some.names.now (string_bytes {Z = Global})) in
-    let P : ℕ → Type 0 = λ n. IsCourseOfRun S.left S.faults (told_bytes told names) n c.read_and_write.result.feeds.items c.read_and_write.result.status (K.written before) (K.written after) (K.faults before) (K.faults after) in
-    course_of_names S.left S.faults told words names (g.O.Opener.faults c.args.opener.now) (g.O.Opener.faults c.open_all.new.opener) c.read_and_write.result.feeds.items c.read_and_write.result.status
-    (K.written before) (K.written after) (K.faults before) (K.faults after) (sym c.in-Some.ensures) c.in-Ok.ensures.enough (subst P count (c.read_and_write.ensures (told_bytes told names) c.in-Ok.ensures.opened))
+    let P : ℕ → Type 0 = λ n. IsCourseOfRun S.left S.faults (told_bytes told names) n c.read_and_write.result.feeds.items c.read_and_write.result.status sink in
+    course_of_names S.left S.faults (opener_seen g.O.Opener.told g.O.Opener.faults c.args.opener.now c.open_all.new.opener) words names c.read_and_write.result.feeds.items c.read_and_write.result.status
+    sink (sym c.in-Some.ensures) c.in-Ok.ensures.enough (subst P count (c.read_and_write.ensures (told_bytes told names) c.in-Ok.ensures.opened))
