@@ -22,6 +22,7 @@ pub struct FeedEnd<S: Drop> {
     pub header: Option<Header>,
     /// How many lines were answered, the header included: at most 16,384, and 0 where there is no header.
     pub lines: u32,
+    /// How the reading of it ended.
     pub stop: FeedStop,
     /// The source, with what was not taken of it.
     pub source: S,
