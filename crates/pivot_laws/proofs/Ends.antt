@@ -1,4 +1,6 @@
--- The objective row never passes first.
+-- The objective row never passes first. As built it is 1 and zeros, so the first pivot makes of it nothing larger than the pivot
+-- row; from then on its kept form is, but for column 0, that of the row in which column 0 is basic, divided by a whole number and
+-- with its signs turned, and a pivot comes to that row first.
 use Rattle.std.proofs.Common.{◌≡◌, ◌≢◌, ℕ, ◌+◌, ◌*◌, ◌<◌, inl, inr, [], length, All, refl, sym, ap, ap₂, ◌∙◌, subst, arith, mul-pos}
 use Rattle.std.proofs.lemmas.Bool.{cases_lt}
 use Rattle.std.proofs.lemmas.List.{length-map}
@@ -6,9 +8,7 @@ use lib.IntN.{ℤ, pos, negsuc, ◌-ℤ◌, ◌*ℤ◌, neg_ℤ}
 use lib.Signed.{◌<ℤ◌}
 use Rattle.row_definitions.specs.Rows.{entry, row_divisor, divided, primitive_row}
 use Rattle.row_definitions.specs.Combination.{FitsEntry, PassesNowhere, PassesFirst}
-use Rattle.row_definitions.proofs.Numbers.{divided-zero}
 use Rattle.row_definitions.proofs.Primitives.{primitive_row-primitive_row}
-use Rattle.row_definitions.proofs.Combinations.{entry-divided}
 use Rattle.pivot_definitions.specs.Programs.{LinearProgram, IsProgram, FitsEntries}
 use Rattle.pivot_definitions.specs.Tableaus.{SimplexTableau, IsTableau, row_at, entry_at, objective, column_count, built, built_objective, kept}
 use Rattle.pivot_definitions.specs.Runs.{IsChoice}
@@ -17,11 +17,11 @@ use Rattle.pivot_definitions.proofs.Ring.{dif_is, difs, dif_same, linear}
 use Rattle.pivot_definitions.proofs.Built.{length-range, built-HasFittingEntries, built-HasPrimitiveRows}
 use Rattle.pivot_definitions.proofs.Pivots.{width}
 use Rattle.pivot_definitions.proofs.Start.{built_feasible, objective_built, unit_facts}
-use Rattle.pivot_definitions.proofs.Signs.{multiple, positive_kept}
+use Rattle.pivot_definitions.proofs.Signs.{multiple, positive_kept, zero_kept}
 use Rattle.pivot_definitions.proofs.KeptForms.{row_kept}
 use Rattle.pivot_definitions.proofs.Level.{Level, UnitFacts, enters_not_level, level_negative}
 use Rattle.pivot_definitions.proofs.Reached.{reached, first_enters}
-use Rattle.pivot_laws.specs.Laws.{ObjectivePassesLast}
+use Rattle.pivot_laws.specs.Laws.{ObjectiveNeverPassesFirst}
 use Rattle.pivot_laws.proofs.Shares.{turned_multiple, nowhere_in_share, nowhere_in_unit}
 
 natural : (z : ℤ) → pos 0 <ℤ z → (n : ℕ) × (0 < n) × (z ≡ pos n)
@@ -29,12 +29,6 @@ natural (pos n) h = (n, omega (arith, linear, h), refl)
 natural (negsuc n) h = absurd (omega (arith, linear, h))
 
 -- ---- the rows of a kept form
-
--- a column where a row is 0 is 0 in its kept form
-kept_zero : (t : SimplexTableau) (i k : ℕ) → entry_at t i k ≡ pos 0 → entry_at (kept t) i k ≡ pos 0
-kept_zero t i k e =
-    let g = row_divisor (row_at t i) in
-    ap (λ r. entry r k) (row_kept t.rows i) ∙ entry-divided g (row_at t i) k ∙ ap (divided g) e ∙ divided-zero g
 
 kept_primitive : (t : SimplexTableau) (i : ℕ) → primitive_row (row_at (kept t) i) ≡ row_at (kept t) i
 kept_primitive t i = ap primitive_row (row_kept t.rows i) ∙ primitive_row-primitive_row (row_at t i) ∙ sym (row_kept t.rows i)
@@ -92,7 +86,7 @@ nowhere_level t cap unit slack p q feasible unit_facts level choice fits_before 
     let not_zero : q ≢ 0 = λ e. enters_not_level t q i feasible.shape feasible.canonical within choice.enters.positive (e ∙ sym level.basic) in
     let negative = level_negative level.c level.e level.f (objective t q) (unit q) (entry_at t i q) level.positive_c level.positive_e (level.objective_is q) (unit_facts.elsewhere q not_zero) choice.enters.positive in
     let not_p : i ≢ p = λ e. let x : entry_at t p q <ℤ pos 0 = subst (λ j. entry_at t j q <ℤ pos 0) e negative in let y = choice.leaves.candidate.positive in omega (arith, linear, x, y) in
-    let zero_in : (j : ℕ) → j < length t.rows → j ≢ i → entry_at (kept t) j 0 ≡ pos 0 = λ j h ne. kept_zero t j 0 (ap (entry_at t j) (sym level.basic) ∙ feasible.canonical.zero_elsewhere i j within h ne) in
+    let zero_in : (j : ℕ) → j < length t.rows → j ≢ i → entry_at (kept t) j 0 ≡ pos 0 = λ j h ne. zero_kept t j 0 (ap (entry_at t j) (sym level.basic) ∙ feasible.canonical.zero_elsewhere i j within h ne) in
     let m = multiple t n in
     let k = multiple t i in
     let c = natural level.c level.positive_c in
@@ -111,8 +105,8 @@ nowhere_level t cap unit slack p q feasible unit_facts level choice fits_before 
     (zero_in p row (λ s. not_p (sym s)))
     (fits_before i within not_p)
 
-pub objective_passes_last : ObjectivePassesLast
-objective_passes_last program is capped fits budget pivots at_row at_column end wide =
+pub objective_never_passes_first : ObjectiveNeverPassesFirst
+objective_never_passes_first program is capped fits budget pivots at_row at_column end wide =
     let held = reached program is capped pivots end wide.run in
     let first = wide.passes in
     let rows = held.feasible.shape.row_count in

@@ -4,6 +4,6 @@ use Rattle.pivot_definitions.specs.Programs.{LinearProgram, IsProgram, IsCapped,
 use Rattle.pivot_definitions.specs.Tableaus.{SimplexTableau, built}
 use Rattle.pivot_definitions.specs.Runs.{EndsWide}
 
--- where a run of a capped program ends wide, the place is in a constraint row, never in the objective row
-abbrev pub ObjectivePassesLast : Type 0
-ObjectivePassesLast = (program : LinearProgram) → IsProgram program → IsCapped program → FitsEntries program → (budget pivots at_row at_column : ℕ) (end : SimplexTableau) → EndsWide (built program) budget pivots at_row at_column end → at_row < length end.basis
+-- where a run of a capped program whose numbers an entry may have ends wide, the place is in a constraint row, never in the objective row
+abbrev pub ObjectiveNeverPassesFirst : Type 0
+ObjectiveNeverPassesFirst = (program : LinearProgram) → IsProgram program → IsCapped program → FitsEntries program → (budget pivots at_row at_column : ℕ) (end : SimplexTableau) → EndsWide (built program) budget pivots at_row at_column end → at_row < length end.basis

@@ -1,5 +1,5 @@
-use Rattle.pivot_laws.proofs.Ends.{objective_passes_last}
+use Rattle.pivot_laws.proofs.Ends.{objective_never_passes_first}
 use Rattle.pivot_laws.proofs.the_objective_row_never_passes_first.Goals as goal
 
 pub returns : goal.returns
-returns c = objective_passes_last
+returns c = objective_never_passes_first
