@@ -13,7 +13,7 @@ use Rattle.pivot_definitions.proofs.Reached.{reached}
 use Rattle.pivot_definitions.proofs.Signs.{positive_kept, zero_kept, right_sides_kept}
 use Rattle.pivot_definitions.proofs.Solutions.{row_of, found, by_row}
 
-kept_shape : (t : SimplexTableau) → IsTableau t → IsTableau (kept t)
+pub kept_shape : (t : SimplexTableau) → IsTableau t → IsTableau (kept t)
 kept_shape t is =
     let W : List ℤ → Type 0 = λ r. length r ≡ column_count t + 1 in
     record {
