@@ -5,25 +5,13 @@ use borrow.Author.Differences.{same_out}
 use Rattle.pivot_definitions.specs.Programs.{LinearProgram, IsProgram, coefficient}
 use Rattle.pivot_definitions.specs.Tableaus.{SimplexTableau, objective, multiplier_of, kept}
 use Rattle.pivot_definitions.specs.Duality.{sum_below, right_side_sum, CombinesToObjective, IsSolutionTimes, LevelIsBound}
-use Rattle.pivot_definitions.proofs.Ring.{dif_is, difs, dif_same, linear, mul_pos, same_from_product}
+use Rattle.pivot_definitions.proofs.Ring.{dif_is, difs, dif_same, linear, mul_pos, same_from_product, zero_times, one_times, times_one}
 use Rattle.pivot_definitions.proofs.Start.{unit_facts, built_coefficient}
 use Rattle.pivot_definitions.proofs.Signs.{multiple}
 use Rattle.pivot_definitions.proofs.Sums.{sum_same, sum_scaled, sum_one, sum_none}
 use Rattle.pivot_definitions.proofs.Duality.{U, surplus}
 use Rattle.pivot_definitions.proofs.Optimum.{S, scale_of, scale_is, multiplied, add_negative}
 use Rattle.pivot_definitions.proofs.Solutions.{Basic, basic_of, solution, solution_is, solves_plain, no_part, K, K_positive, wide}
-
-zero_times : (x : ℤ) → pos 0 *ℤ x ≡ pos 0
-zero_times x = rw (dif_is x) (simp difs (dif_same _ _ _ _ (omega arith)))
-
-one_times : (x : ℤ) → pos 1 *ℤ x ≡ x
-one_times x = rw (dif_is x) (simp difs (dif_same _ _ _ _ (omega arith)))
-
-times_one : (x : ℤ) → x *ℤ pos 1 ≡ x
-times_one x = rw (dif_is x) (simp difs (dif_same _ _ _ _ (omega arith)))
-
-times_zero : (x : ℤ) → x *ℤ pos 0 ≡ pos 0
-times_zero x = rw (dif_is x) (simp difs (dif_same _ _ _ _ (omega arith)))
 
 left_side : (g k d o : ℤ) → g *ℤ pos 0 -ℤ (k *ℤ d) *ℤ (g *ℤ o) ≡ (g *ℤ k) *ℤ (d *ℤ neg_ℤ o)
 left_side g k d o = rw (dif_is g, dif_is k, dif_is d, dif_is o) (simp difs (dif_same _ _ _ _ (omega arith)))

@@ -8,7 +8,7 @@ use Rattle.pivot_definitions.specs.Programs.{LinearProgram, IsProgram, IsCapped,
 use Rattle.pivot_definitions.specs.Tableaus.{SimplexTableau, entry_at, objective, plain_pivot, built, built_row, built_objective}
 use Rattle.pivot_definitions.specs.Runs.{RunsTo}
 use Rattle.pivot_definitions.specs.Duality.{sum_below}
-use Rattle.pivot_definitions.proofs.Ring.{by_eq, dif_is, difs, dif_same, linear, mul_pos, same_from_product}
+use Rattle.pivot_definitions.proofs.Ring.{by_eq, dif_is, difs, dif_same, linear, mul_pos, same_from_product, zero_times, one_times, assoc}
 use Rattle.pivot_definitions.proofs.Pivots.{PivotFacts, pivot_facts}
 use Rattle.pivot_definitions.proofs.Built.{length-range, built_slack, unit_here}
 use Rattle.pivot_definitions.proofs.Start.{row_built, objective_built, unit_elsewhere, unit_facts}
@@ -37,12 +37,6 @@ pub record Combined (program : LinearProgram) (t : SimplexTableau) : Type 0 wher
   pub objective_is : (k : ℕ) → objective t k ≡ scale *ℤ U program k +ℤ sum_below program.rows (λ j. objective t (program.columns + j) *ℤ B program j k)
   pub back : (z : ℕ → ℤ) (d : ℤ) → Solves program t z d → Solves program (built program) z d
   pub value : (z : ℕ → ℤ) (d : ℤ) → Solves program t z d → surplus program (objective t) z d ≡ scale *ℤ surplus program (U program) z d
-
-zero_times : (x : ℤ) → pos 0 *ℤ x ≡ pos 0
-zero_times x = rw (dif_is x) (simp difs (dif_same _ _ _ _ (omega arith)))
-
-one_times : (x : ℤ) → pos 1 *ℤ x ≡ x
-one_times x = rw (dif_is x) (simp difs (dif_same _ _ _ _ (omega arith)))
 
 one_and_none : (x : ℤ) → x ≡ pos 1 *ℤ x +ℤ pos 0
 one_and_none x = rw (dif_is x) (simp difs (dif_same _ _ _ _ (omega arith)))
@@ -76,9 +70,6 @@ surplus_step p o d x e y f = rw (dif_is p, dif_is o, dif_is d, dif_is x, dif_is 
 
 cancel_last : (a b c : ℤ) → a -ℤ c ≡ b -ℤ c → a ≡ b
 cancel_last a b c e = let o = same_out _ _ e in omega (arith, linear, o)
-
-product_assoc : (a b c : ℤ) → a *ℤ (b *ℤ c) ≡ (a *ℤ b) *ℤ c
-product_assoc a b c = rw (dif_is a, dif_is b, dif_is c) (simp difs (dif_same _ _ _ _ (omega arith)))
 
 combined_step : (program : LinearProgram) (t u : SimplexTableau) (p q : ℕ) → Reached program t → PivotFacts t u p q → p < program.rows → pos 0 <ℤ entry_at t p q → Combined program t → Combined program u
 combined_step program t u p q held facts within positive combined =
@@ -119,7 +110,7 @@ combined_step program t u p q held facts within positive combined =
           (sum_same n (λ k. objective u k *ℤ z k) (λ k. (P *ℤ objective t k -ℤ objective t q *ℤ entry_at t p k) *ℤ z k) (λ k hk. ap (λ x. x *ℤ z k) (last k)) ∙ sum_linear n P (objective t q) (λ k. objective t k) (λ k. entry_at t p k) z ∙ ap (λ x. P *ℤ sum_below n (λ k. objective t k *ℤ z k) -ℤ objective t q *ℤ x) (before p within))
           (last n)
           ∙ surplus_step P (objective t q) d (sum_below n (λ k. objective t k *ℤ z k)) (objective t n) (entry_at t p n) P
-          ∙ ap (λ x. P *ℤ x) (combined.value z d before) ∙ product_assoc P combined.scale (surplus program (U program) z d));
+          ∙ ap (λ x. P *ℤ x) (combined.value z d before) ∙ assoc P combined.scale (surplus program (U program) z d));
     }
 
 pub combined : (program : LinearProgram) → IsProgram program → IsCapped program → (n : ℕ) (t : SimplexTableau) → RunsTo (built program) n t → Combined program t

@@ -10,9 +10,6 @@ use Rattle.pivot_definitions.proofs.Ring.{by_eq, dif_is, difs, dif_same, linear,
 use borrow.Author.Differences.{same_out}
 use Rattle.pivot_definitions.proofs.Pivots.{PivotFacts}
 
-times_zero : (a b : ℤ) → a *ℤ pos 0 ≡ pos 0
-times_zero a b = rw (dif_is a) (simp difs (dif_same _ _ _ _ (omega arith)))
-
 less_product_zero : (a b c : ℤ) → a *ℤ b -ℤ c *ℤ pos 0 ≡ a *ℤ b
 less_product_zero a b c = rw (dif_is a, dif_is b, dif_is c) (simp difs (dif_same _ _ _ _ (omega arith)))
 

@@ -16,7 +16,7 @@ use Rattle.pivot_definitions.proofs.Pivots.{length-others, same_row, other_row, 
 use Rattle.pivot_definitions.proofs.KeptForms.{kept_pivot_lem}
 use Rattle.pivot_definitions.proofs.Signs.{positive_plain}
 
-All-others : (P : List ℤ → Type 0) (f : List ℤ → List ℤ) (rows : List (List ℤ)) (p : ℕ) → p < length rows → P (get_or rows p []) → ((i : ℕ) → i < length rows → i ≢ p → P (f (get_or rows i []))) → All P (others_combined f rows p)
+pub All-others : (P : List ℤ → Type 0) (f : List ℤ → List ℤ) (rows : List (List ℤ)) (p : ℕ) → p < length rows → P (get_or rows p []) → ((i : ℕ) → i < length rows → i ≢ p → P (f (get_or rows i []))) → All P (others_combined f rows p)
 All-others P f rows p within here others = All-from_get_or P (others_combined f rows p) [] (λ i h. by_eq i p
     (λ e. subst P (sym (ap (λ n. get_or (others_combined f rows p) n []) e ∙ same_row f rows p)) here)
     (λ ne. let inside : i < length rows = omega (arith, length-others f rows p within) in subst P (sym (other_row f rows p i inside ne)) (others i inside ne)))
@@ -24,7 +24,7 @@ All-others P f rows p within here others = All-from_get_or P (others_combined f 
 length-combined : (target pivot : List ℤ) (at : ℕ) → length target ≡ length pivot → length (combined target pivot at) ≡ length target
 length-combined target pivot at e = length-map (reduced_combination target pivot at) (divided (row_divisor (reduced_combination target pivot at))) ∙ length-combination (target_factor target pivot at) (pivot_factor target pivot at) target pivot e
 
-fits_combined : (target pivot : List ℤ) (at : ℕ) → length target ≡ length pivot → PassesNowhere target pivot at → All FitsEntry (combined target pivot at)
+pub fits_combined : (target pivot : List ℤ) (at : ℕ) → length target ≡ length pivot → PassesNowhere target pivot at → All FitsEntry (combined target pivot at)
 fits_combined target pivot at e fits = FitsEntry-primitive_row (reduced_combination target pivot at) (All-from_get_or FitsEntry (reduced_combination target pivot at) (pos 0)
     (λ k h. subst FitsEntry (sym (entry-combination (target_factor target pivot at) (pivot_factor target pivot at) target pivot k e)) ((fits k (omega (arith, length-combination (target_factor target pivot at) (pivot_factor target pivot at) target pivot e))).difference)))
 

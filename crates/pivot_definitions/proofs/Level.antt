@@ -44,10 +44,10 @@ pub record Level (t : SimplexTableau) (cap unit : ℕ → ℤ) (slack : ℕ) : T
   pub objective_is : (k : ℕ) → c *ℤ objective t k ≡ f *ℤ unit k -ℤ e *ℤ entry_at t level_row k
 
 -- the entry of a basic column in the objective row
-objective_of_basic : (t : SimplexTableau) → IsTableau t → IsCanonical t → (i : ℕ) → i < length t.basis → objective t (basic_column t i) ≡ pos 0
+pub objective_of_basic : (t : SimplexTableau) → IsTableau t → IsCanonical t → (i : ℕ) → i < length t.basis → objective t (basic_column t i) ≡ pos 0
 objective_of_basic t is canonical i h = canonical.zero_elsewhere i (length t.basis) h (omega (arith, is.row_count)) (omega arith)
 
-pub enters_not_level : (t : SimplexTableau) (q i : ℕ) → IsTableau t → IsCanonical t → i < length t.basis → pos 0 <ℤ objective t q → q ≢ basic_column t i
+enters_not_level : (t : SimplexTableau) (q i : ℕ) → IsTableau t → IsCanonical t → i < length t.basis → pos 0 <ℤ objective t q → q ≢ basic_column t i
 enters_not_level t q i is canonical h positive e =
     let z : objective t q ≡ pos 0 = subst (λ k. objective t k ≡ pos 0) (sym e) (objective_of_basic t is canonical i h) in
     omega (arith, linear, same_out _ _ z)
@@ -56,7 +56,7 @@ zero_less : (f x : ℤ) → f *ℤ pos 0 -ℤ x ≡ pos 0 -ℤ x
 zero_less f x = rw (dif_is f, dif_is x) (simp difs (dif_same _ _ _ _ (omega arith)))
 
 -- where an entry of the objective row is positive, the level's row is negative
-pub level_negative : (c e f o u r : ℤ) → pos 0 <ℤ c → pos 0 <ℤ e → c *ℤ o ≡ f *ℤ u -ℤ e *ℤ r → u ≡ pos 0 → pos 0 <ℤ o → r <ℤ pos 0
+level_negative : (c e f o u r : ℤ) → pos 0 <ℤ c → pos 0 <ℤ e → c *ℤ o ≡ f *ℤ u -ℤ e *ℤ r → u ≡ pos 0 → pos 0 <ℤ o → r <ℤ pos 0
 level_negative c e f o u r hc he same zero_u ho =
     by_lt_z r (pos 0) (λ x. x) (λ x.
     let y = mul_pos c o hc ho in
@@ -96,14 +96,14 @@ cap_three : (a b d P r0k r0q pk ck x : ℤ) → d *ℤ ck ≡ a *ℤ r0k +ℤ b 
 cap_three a b d P r0k r0q pk ck x at_k at_q =
     sym (three a b P r0k r0q pk x ∙ ap₂ (λ y z. P *ℤ y -ℤ z *ℤ pk) (sym at_k) (sym at_q) ∙ whole P d ck pk)
 
-apart : (c P o oq pk : ℤ) → c *ℤ (P *ℤ o -ℤ oq *ℤ pk) ≡ P *ℤ (c *ℤ o) -ℤ (c *ℤ oq) *ℤ pk
+pub apart : (c P o oq pk : ℤ) → c *ℤ (P *ℤ o -ℤ oq *ℤ pk) ≡ P *ℤ (c *ℤ o) -ℤ (c *ℤ oq) *ℤ pk
 apart c P o oq pk = rw (dif_is c, dif_is P, dif_is o, dif_is oq, dif_is pk) (simp difs (dif_same _ _ _ _ (omega arith)))
 
 together : (P f e uk r0k r0q pk : ℤ) → P *ℤ (f *ℤ uk -ℤ e *ℤ r0k) -ℤ (f *ℤ pos 0 -ℤ e *ℤ r0q) *ℤ pk ≡ (P *ℤ f) *ℤ uk -ℤ e *ℤ (P *ℤ r0k -ℤ r0q *ℤ pk)
 together P f e uk r0k r0q pk = rw (dif_is P, dif_is f, dif_is e, dif_is uk, dif_is r0k, dif_is r0q, dif_is pk) (simp difs (dif_same _ _ _ _ (omega arith)))
 
 -- the objective row after a pivot
-objective_after : (c e f P o oq r0k r0q pk uk uq : ℤ) → c *ℤ o ≡ f *ℤ uk -ℤ e *ℤ r0k → c *ℤ oq ≡ f *ℤ uq -ℤ e *ℤ r0q → uq ≡ pos 0 → c *ℤ (P *ℤ o -ℤ oq *ℤ pk) ≡ (P *ℤ f) *ℤ uk -ℤ e *ℤ (P *ℤ r0k -ℤ r0q *ℤ pk)
+pub objective_after : (c e f P o oq r0k r0q pk uk uq : ℤ) → c *ℤ o ≡ f *ℤ uk -ℤ e *ℤ r0k → c *ℤ oq ≡ f *ℤ uq -ℤ e *ℤ r0q → uq ≡ pos 0 → c *ℤ (P *ℤ o -ℤ oq *ℤ pk) ≡ (P *ℤ f) *ℤ uk -ℤ e *ℤ (P *ℤ r0k -ℤ r0q *ℤ pk)
 objective_after c e f P o oq r0k r0q pk uk uq at_k at_q none =
     apart c P o oq pk ∙ ap₂ (λ y z. P *ℤ y -ℤ z *ℤ pk) at_k (at_q ∙ ap (λ z. f *ℤ z -ℤ e *ℤ r0q) none) ∙ together P f e uk r0k r0q pk
 

@@ -12,6 +12,7 @@ pub mod Sums
 pub mod Duality
 pub mod Optimum
 pub mod Solutions
+pub mod KeptFeasible
 pub mod Bound
 pub mod One
 pub mod Weak

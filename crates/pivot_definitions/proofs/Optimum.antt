@@ -8,7 +8,7 @@ use Rattle.pivot_definitions.specs.Programs.{LinearProgram, IsProgram, IsCapped,
 use Rattle.pivot_definitions.specs.Tableaus.{SimplexTableau, column_count, objective, multiplier_of, built, kept}
 use Rattle.pivot_definitions.specs.Runs.{RunsTo}
 use Rattle.pivot_definitions.specs.Duality.{sum_below, objective_of, CombinesToObjective, RowsCombine, BestMultipliersBound}
-use Rattle.pivot_definitions.proofs.Ring.{dif_is, difs, dif_same, linear, positive_from_product, same_from_product}
+use Rattle.pivot_definitions.proofs.Ring.{dif_is, difs, dif_same, linear, positive_from_product, same_from_product, times_one, times_zero, assoc}
 use Rattle.pivot_definitions.proofs.Start.{unit_facts, built_coefficient, built_right_side}
 use Rattle.pivot_definitions.proofs.Reached.{reached}
 use Rattle.pivot_definitions.proofs.Signs.{multiple}
@@ -36,21 +36,6 @@ core program plain all k =
 
 abbrev pub scale_of : LinearProgram → SimplexTableau → ℤ
 scale_of program t = objective t 0 -ℤ S program t 0
-
-times_one : (x : ℤ) → x *ℤ pos 1 ≡ x
-times_one x = rw (dif_is x) (simp difs (dif_same _ _ _ _ (omega arith)))
-
-times_zero : (x : ℤ) → x *ℤ pos 0 ≡ pos 0
-times_zero x = rw (dif_is x) (simp difs (dif_same _ _ _ _ (omega arith)))
-
-zero_times : (x : ℤ) → pos 0 *ℤ x ≡ pos 0
-zero_times x = rw (dif_is x) (simp difs (dif_same _ _ _ _ (omega arith)))
-
-one_times : (x : ℤ) → pos 1 *ℤ x ≡ x
-one_times x = rw (dif_is x) (simp difs (dif_same _ _ _ _ (omega arith)))
-
-assoc : (a b c : ℤ) → a *ℤ (b *ℤ c) ≡ (a *ℤ b) *ℤ c
-assoc a b c = rw (dif_is a, dif_is b, dif_is c) (simp difs (dif_same _ _ _ _ (omega arith)))
 
 pub scale_is : (program : LinearProgram) (plain : SimplexTableau) (all : Combined program plain) → (multiple plain (length plain.basis)).factor *ℤ scale_of program (kept plain) ≡ all.scale
 scale_is program plain all = core program plain all 0 ∙ times_one all.scale

@@ -25,7 +25,7 @@ first_objective : (P u r : ℤ) → pos 1 *ℤ (P *ℤ u -ℤ pos 1 *ℤ r) ≡ 
 first_objective P u r = rw (dif_is P, dif_is u, dif_is r) (simp difs (dif_same _ _ _ _ (omega arith)))
 
 -- the first entering column is column 0
-pub first_enters : (program : LinearProgram) (q : ℕ) → pos 0 <ℤ objective (built program) q → q ≡ 0
+first_enters : (program : LinearProgram) (q : ℕ) → pos 0 <ℤ objective (built program) q → q ≡ 0
 first_enters program q positive = by_eq q 0 (λ e. e) (λ differ.
     let count = length-range program.columns program.rows in
     let e : objective (built program) q ≡ pos 0 = ap (λ n. entry_at (built program) n q) count ∙ ap (λ r. entry r q) (objective_built program) ∙ (unit_facts program).elsewhere q differ in

@@ -57,6 +57,25 @@ dif_mul a b c d =
 -- for `simp`: an expression of differences is one difference
 pub ruleset difs = (dif_add, dif_sub, dif_neg, dif_mul, dif_pos)
 
+-- ---- products by 0 and 1, and of three
+
+pub zero_times : (x : ℤ) → pos 0 *ℤ x ≡ pos 0
+zero_times x = rw (dif_is x) (simp difs (dif_same _ _ _ _ (omega arith)))
+
+pub times_zero : (x : ℤ) → x *ℤ pos 0 ≡ pos 0
+times_zero x = rw (dif_is x) (simp difs (dif_same _ _ _ _ (omega arith)))
+
+pub one_times : (x : ℤ) → pos 1 *ℤ x ≡ x
+one_times x = rw (dif_is x) (simp difs (dif_same _ _ _ _ (omega arith)))
+
+pub times_one : (x : ℤ) → x *ℤ pos 1 ≡ x
+times_one x = rw (dif_is x) (simp difs (dif_same _ _ _ _ (omega arith)))
+
+pub assoc : (a b c : ℤ) → a *ℤ (b *ℤ c) ≡ (a *ℤ b) *ℤ c
+assoc a b c = rw (dif_is a, dif_is b, dif_is c) (simp difs (dif_same _ _ _ _ (omega arith)))
+
+-- ---- signs of products
+
 pub mul_pos : (a b : ℤ) → pos 0 <ℤ a → pos 0 <ℤ b → pos 0 <ℤ (a *ℤ b)
 mul_pos (pos a) (pos b) h k = rw pos-*ℤ-pos (let x : 0 < a = omega (arith, ints) in let y : 0 < b = omega (arith, ints) in let z : 0 < a * b = mul-pos x y in omega (arith, ints))
 mul_pos (pos a) (negsuc b) h k = absurd (omega (arith, ints))

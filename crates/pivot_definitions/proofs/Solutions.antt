@@ -14,31 +14,15 @@ use Rattle.pivot_definitions.specs.Programs.{LinearProgram, IsProgram, IsCapped,
 use Rattle.pivot_definitions.specs.Tableaus.{SimplexTableau, entry_at, basic_column, column_count, right_side, IsValueOf, built, kept}
 use Rattle.pivot_definitions.specs.Runs.{RunsTo}
 use Rattle.pivot_definitions.specs.Duality.{sum_below, row_sum, IsSolutionTimes, BasicSolutionExists, BasicSolutionSatisfies}
-use Rattle.pivot_definitions.proofs.Ring.{dif_is, difs, dif_same, linear, mul_not_negative, not_negative_from_product, same_from_product, at_most_from_product}
+use Rattle.pivot_definitions.proofs.Ring.{dif_is, difs, dif_same, linear, mul_not_negative, not_negative_from_product, at_most_from_product, zero_times, one_times, times_one, times_zero, assoc}
 use Rattle.pivot_definitions.proofs.Built.{built_slack, unit_here}
 use Rattle.pivot_definitions.proofs.Start.{row_built, unit_elsewhere, built_coefficient, built_right_side}
 use Rattle.pivot_definitions.proofs.Reached.{Reached, reached}
-use Rattle.pivot_definitions.proofs.Signs.{multiple, positive_kept, not_negative_kept}
+use Rattle.pivot_definitions.proofs.Signs.{multiple, positive_kept, zero_kept, not_negative_kept}
 use Rattle.pivot_definitions.proofs.Sums.{sum_same, sum_scaled, sum_scaled_right, sum_one, sum_parts, product_below, product_positive, cofactor, cofactor_is, cofactor_positive}
 use Rattle.pivot_definitions.proofs.Duality.{B, Solves, Combined, combined}
 
-zero_times : (x : ℤ) → pos 0 *ℤ x ≡ pos 0
-zero_times x = rw (dif_is x) (simp difs (dif_same _ _ _ _ (omega arith)))
-
-times_zero : (x : ℤ) → x *ℤ pos 0 ≡ pos 0
-times_zero x = rw (dif_is x) (simp difs (dif_same _ _ _ _ (omega arith)))
-
-one_times : (x : ℤ) → pos 1 *ℤ x ≡ x
-one_times x = rw (dif_is x) (simp difs (dif_same _ _ _ _ (omega arith)))
-
-assoc : (a b c : ℤ) → a *ℤ (b *ℤ c) ≡ (a *ℤ b) *ℤ c
-assoc a b c = rw (dif_is a, dif_is b, dif_is c) (simp difs (dif_same _ _ _ _ (omega arith)))
-
 -- ---- the kept form's basic columns
-
--- an entry of the kept form is 0 where the plain one is
-zero_kept : (plain : SimplexTableau) (row k : ℕ) → entry_at plain row k ≡ pos 0 → entry_at (kept plain) row k ≡ pos 0
-zero_kept plain row k e = let m = multiple plain row in same_from_product m.factor (entry_at (kept plain) row k) (pos 0) m.positive (sym (m.entries k) ∙ e ∙ sym (times_zero m.factor))
 
 -- a row's own entry in its basic column
 abbrev pub own : SimplexTableau → ℕ → ℤ
@@ -52,7 +36,7 @@ abbrev rest : LinearProgram → SimplexTableau → ℕ → ℤ
 rest program t row = cofactor program.rows (own t) row
 
 -- the row in which a column is basic
-abbrev row_of : SimplexTableau → ℕ → Option ℕ
+abbrev pub row_of : SimplexTableau → ℕ → Option ℕ
 row_of t k = position (λ basic. basic == k) t.basis
 
 pick : (ℕ → ℤ) → Option ℕ → ℤ
@@ -63,11 +47,11 @@ pick f (Some row) = f row
 pub solution : LinearProgram → SimplexTableau → ℤ → ℕ → ℤ
 solution program t d k = pick (λ row. (d *ℤ right_side t row) *ℤ rest program t row) (row_of t k)
 
-found : (t : SimplexTableau) (k row : ℕ) → row_of t k ≡ Some row → (row < length t.basis) × (basic_column t row ≡ k)
+pub found : (t : SimplexTableau) (k row : ℕ) → row_of t k ≡ Some row → (row < length t.basis) × (basic_column t row ≡ k)
 found t k row e = let f = position-Some (λ basic. basic == k) t.basis row 0 e in (f.0, eqb-true (basic_column t row) k f.1)
 
 -- what holds of a column that is basic in no row, or in one
-by_row : (P : Option ℕ → Type 0) (o : Option ℕ) → (o ≡ None → P None) → ((row : ℕ) → o ≡ Some row → P (Some row)) → P o
+pub by_row : (P : Option ℕ → Type 0) (o : Option ℕ) → (o ≡ None → P None) → ((row : ℕ) → o ≡ Some row → P (Some row)) → P o
 by_row P None none some = none refl
 by_row P (Some row) none some = some row refl
 
@@ -217,9 +201,6 @@ basic_solution_satisfies program tableau times point (is, capped, pivots, plain,
     let basic = basic_of program is capped pivots plain run in
     let there = subst (λ t. IsSolutionTimes program t times point) kept_is solution_times in
     record { not_negative = point_not_negative program plain times point basic there; satisfies = satisfied program is plain times point basic there }
-
-times_one : (x : ℤ) → x *ℤ pos 1 ≡ x
-times_one x = rw (dif_is x) (simp difs (dif_same _ _ _ _ (omega arith)))
 
 -- the product of the entries of all basic columns times the basic solution is whole
 solution_whole : (program : LinearProgram) (plain : SimplexTableau) → Basic program plain → (k : ℕ) (value : ℤ × ℤ) → IsValueOf (kept plain) k value → value.1 *ℤ solution program (kept plain) (pos 1) k ≡ K program (kept plain) *ℤ value.0

@@ -6,11 +6,8 @@ use borrow.Author.Differences.{same_out}
 use Rattle.row_definitions.specs.Rows.{entry}
 use Rattle.pivot_definitions.specs.Programs.{coefficient}
 use Rattle.pivot_definitions.specs.Duality.{sum_below, row_sum, column_sum, objective_of, BoundHolds}
-use Rattle.pivot_definitions.proofs.Ring.{dif_is, difs, dif_same, linear, mul_not_negative}
+use Rattle.pivot_definitions.proofs.Ring.{dif_is, difs, dif_same, linear, mul_not_negative, zero_times}
 use Rattle.pivot_definitions.proofs.Sums.{sum_scaled, sum_scaled_right, sum_one, sum_none}
-
-zero_times : (x : ℤ) → pos 0 *ℤ x ≡ pos 0
-zero_times x = rw (dif_is x) (simp difs (dif_same _ _ _ _ (omega arith)))
 
 plus_step : (x y u v h : ℤ) → (x +ℤ y) +ℤ (u +ℤ v) *ℤ h ≡ (x +ℤ u *ℤ h) +ℤ (y +ℤ v *ℤ h)
 plus_step x y u v h = rw (dif_is x, dif_is y, dif_is u, dif_is v, dif_is h) (simp difs (dif_same _ _ _ _ (omega arith)))

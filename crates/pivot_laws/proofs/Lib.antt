@@ -1,2 +1,3 @@
 mod Shares
+mod Phases
 mod Ends

@@ -1,11 +1,11 @@
 -- Rows of which one is a multiple of the other with its signs turned, but for column 0: what fits in the one's combination with a
 -- pivot row fits in the other's.
-use Rattle.std.proofs.Common.{◌≡◌, ◌≢◌, ℕ, zero, suc, ◌*◌, ◌<◌, ◌≤◌, ◌^◌, List, [], ◌∷◌, map, length, refl, sym, ap, ap₂, ◌∙◌, subst, arith, inl, inr, mul-pos, mul-le-mul_right, lit<}
+use Rattle.std.proofs.Common.{◌≡◌, ◌≢◌, ℕ, zero, suc, ◌*◌, ◌<◌, ◌≤◌, ◌^◌, List, [], ◌∷◌, map, length, refl, sym, ap, ap₂, ◌∙◌, subst, arith, inl, inr, mul-pos, mul-le-mul_right, eq-zero-or-pos, lit<}
 use Rattle.std.proofs.lemmas.Bool.{cases_lt}
 use Rattle.std.proofs.lemmas.List.{length-map}
 use Rattle.std.specs.Int.{◌∣◌}
 use Rattle.std.proofs.lemmas.Int.{unsigned_abs-mul}
-use Rattle.std.proofs.lemmas.Nat.Gcd.{le_of_dvd, dvd_trans}
+use Rattle.std.proofs.lemmas.Nat.Gcd.{le_of_dvd, dvd_trans, dvd_refl}
 use Rattle.std.proofs.Math.Nat.{dvd-mul_left}
 use lib.IntN.{ℤ, pos, negsuc, ◌-ℤ◌, ◌*ℤ◌, neg_ℤ, nat_abs as unsigned_abs}
 use lib.Signed.{◌<ℤ◌}
@@ -14,8 +14,8 @@ use Rattle.row_definitions.specs.Combination.{FitsEntry, column_divisor, target_
 use Rattle.row_definitions.proofs.Numbers.{divided-exact}
 use Rattle.row_definitions.proofs.Divisors.{row_divisor_is}
 use Rattle.row_definitions.proofs.Primitives.{IsPositiveMultiple-primitive_row, entry-scaled, primitive_row-proportional, row_divisor-scaled}
-use Rattle.row_definitions.proofs.Combinations.{column_divisor-pos}
-use Rattle.pivot_definitions.proofs.Ring.{by_eq, dif_is, difs, dif_same, linear}
+use Rattle.row_definitions.proofs.Combinations.{column_divisor-pos, size-pos}
+use Rattle.pivot_definitions.proofs.Ring.{by_eq, dif_is, difs, dif_same, linear, times_zero, same_from_product}
 
 -- ---- sizes
 
@@ -42,7 +42,7 @@ fits_share G g x y h le e fits =
 
 -- ---- lists
 
-same_rows : (r s : List ℤ) → length r ≡ length s → ((k : ℕ) → entry r k ≡ entry s k) → r ≡ s
+pub same_rows : (r s : List ℤ) → length r ≡ length s → ((k : ℕ) → entry r k ≡ entry s k) → r ≡ s
 same_rows [] [] e each = refl
 same_rows [] (y ∷ s) e each = absurd (omega arith)
 same_rows (x ∷ r) [] e each = absurd (omega arith)
@@ -71,7 +71,7 @@ turned-entry [] k differ = refl
 turned-entry (x ∷ row) zero differ = absurd (differ refl)
 turned-entry (x ∷ row) (suc k) differ = entry-negated row k
 
-length-scaled : (k : ℕ) (row : List ℤ) → length (scaled k row) ≡ length row
+pub length-scaled : (k : ℕ) (row : List ℤ) → length (scaled k row) ≡ length row
 length-scaled k row = length-map row (λ x. pos k *ℤ x)
 
 -- ---- one row is a multiple of the other
@@ -86,9 +86,6 @@ pub record IsTurnedMultiple (row of : List ℤ) (factor : ℕ) : Type 0 where
 times-neg : (a x : ℤ) → a *ℤ neg_ℤ x ≡ neg_ℤ (a *ℤ x)
 times-neg a x = rw (dif_is a, dif_is x) (simp difs (dif_same _ _ _ _ (omega arith)))
 
-times-zero : (a : ℤ) → a *ℤ pos 0 ≡ pos 0
-times-zero a = rw (dif_is a) (simp difs (dif_same _ _ _ _ (omega arith)))
-
 neg-twice : (x : ℤ) → neg_ℤ (neg_ℤ x) ≡ x
 neg-twice x = omega (arith, linear)
 
@@ -98,7 +95,7 @@ pub turned_multiple : (row of : List ℤ) (a b : ℕ) → 0 < a → 0 < b → le
 turned_multiple row of a b ha hb lengths primitive zero_there meet =
     let t = turned row in
     let same : scaled b t ≡ scaled a of = same_rows (scaled b t) (scaled a of) (length-scaled b t ∙ turned-length row ∙ lengths ∙ sym (length-scaled a of)) (λ k. by_eq k 0
-    (λ e. entry-scaled b t k ∙ ap (λ n. pos b *ℤ entry t n) e ∙ ap (λ x. pos b *ℤ x) (turned-zero row) ∙ times-zero (pos b) ∙ sym (entry-scaled a of k ∙ ap (λ n. pos a *ℤ entry of n) e ∙ ap (λ x. pos a *ℤ x) zero_there ∙ times-zero (pos a)))
+    (λ e. entry-scaled b t k ∙ ap (λ n. pos b *ℤ entry t n) e ∙ ap (λ x. pos b *ℤ x) (turned-zero row) ∙ times_zero (pos b) ∙ sym (entry-scaled a of k ∙ ap (λ n. pos a *ℤ entry of n) e ∙ ap (λ x. pos a *ℤ x) zero_there ∙ times_zero (pos a)))
     (λ differ. entry-scaled b t k ∙ ap (λ x. pos b *ℤ x) (turned-entry row k differ) ∙ times-neg (pos b) (entry row k) ∙ sym (entry-scaled a of k ∙ meet k differ))) in
     let one : primitive_row t ≡ of = primitive_row-proportional t of (record { row_factor = b; other_factor = a; row_above_zero = hb; other_above_zero = ha; meet = same }) ∙ primitive in
     let m = IsPositiveMultiple-primitive_row t in (
@@ -180,8 +177,8 @@ nowhere_in_share row of pivot q factor is not_zero positive none fits k below =
     let b2 = pivot_factor of pivot q in
     by_eq k 0
     (λ e.
-    let x : a2 *ℤ entry of k ≡ pos 0 = ap (λ n. a2 *ℤ entry of n) e ∙ ap (λ z. a2 *ℤ z) is.zero_there ∙ times-zero a2 in
-    let y : b2 *ℤ entry pivot k ≡ pos 0 = ap (λ n. b2 *ℤ entry pivot n) e ∙ ap (λ z. b2 *ℤ z) none ∙ times-zero b2 in
+    let x : a2 *ℤ entry of k ≡ pos 0 = ap (λ n. a2 *ℤ entry of n) e ∙ ap (λ z. a2 *ℤ z) is.zero_there ∙ times_zero a2 in
+    let y : b2 *ℤ entry pivot k ≡ pos 0 = ap (λ n. b2 *ℤ entry pivot n) e ∙ ap (λ z. b2 *ℤ z) none ∙ times_zero b2 in
     record {
       target_product = subst FitsEntry (sym x) zero_fits;
       pivot_product = subst FitsEntry (sym y) zero_fits;
@@ -239,7 +236,57 @@ nowhere_in_unit of pivot one zeros positive fits k below =
     let d : a *ℤ entry of k -ℤ b *ℤ entry pivot k ≡ neg_ℤ (b *ℤ entry pivot k) = ap (λ z. a *ℤ z -ℤ b *ℤ entry pivot k) o ∙ less_zero a (b *ℤ entry pivot k) in
     let size : unsigned_abs (a *ℤ entry of k -ℤ b *ℤ entry pivot k) ≡ unsigned_abs (b *ℤ entry pivot k) = ap unsigned_abs d ∙ abs-neg (b *ℤ entry pivot k) in
     record {
-      target_product = subst FitsEntry (sym (ap (λ z. a *ℤ z) o ∙ times-zero a)) zero_fits;
+      target_product = subst FitsEntry (sym (ap (λ z. a *ℤ z) o ∙ times_zero a)) zero_fits;
       pivot_product = pivot_fits;
       difference = subst (λ n. n < 2 ^ 127) (sym size) pivot_fits;
+    })
+
+-- ---- the pivot row is the greater row itself
+
+turned_here : (n o x : ℤ) → neg_ℤ (n *ℤ o) *ℤ x ≡ o *ℤ neg_ℤ (n *ℤ x)
+turned_here n o x = rw (dif_is n, dif_is o, dif_is x) (simp difs (dif_same _ _ _ _ (omega arith)))
+
+less_itself : (x : ℤ) → x -ℤ x ≡ pos 0
+less_itself x = omega (arith, linear)
+
+-- the smaller row's entry of the column is no greater than the two entries' divisor
+divisor_is_entry : (of pivot : List ℤ) (q factor : ℕ) → IsTurnedMultiple pivot of factor → q ≢ 0 → pos 0 <ℤ entry pivot q → (0 < unsigned_abs (entry of q)) × (unsigned_abs (entry of q) ≤ column_divisor of pivot q)
+divisor_is_entry of pivot q factor is differ positive =
+    let d = unsigned_abs (entry of q) in
+    let size : unsigned_abs (entry pivot q) ≡ factor * d = ap unsigned_abs (is.elsewhere q differ) ∙ abs-neg (pos factor *ℤ entry of q) ∙ unsigned_abs-mul (pos factor) (entry of q) in
+    let some = size-pos (entry pivot q) positive in
+    let first : d ∣ unsigned_abs (entry pivot q) = subst (λ n. d ∣ n) (sym size) (dvd-mul_left d factor) in
+    let divides : d ∣ column_divisor of pivot q = (row_divisor_is (entry pivot q ∷ entry of q ∷ [])).1 d (first, (dvd_refl d, tt)) in (
+      elim (eq-zero-or-pos d) [ inl none ↦ (let e : factor * d ≡ factor * 0 = ap (λ n. factor * n) none in absurd (omega (arith, some, size, e))) | inr above ↦ above ],
+      le_of_dvd (column_divisor-pos of pivot q positive) divides,
+    )
+
+-- it takes the smaller row's signs back, and passes nowhere where the pivot row fits
+pub nowhere_in_turned : (of pivot : List ℤ) (q factor : ℕ) → IsTurnedMultiple pivot of factor → q ≢ 0 → pos 0 <ℤ entry pivot q → ((k : ℕ) → k < length of → FitsEntry (entry pivot k)) → PassesNowhere of pivot q
+nowhere_in_turned of pivot q factor is not_zero positive fits k below =
+    let h = column_divisor of pivot q in
+    let a = target_factor of pivot q in
+    let b = pivot_factor of pivot q in
+    let d = unsigned_abs (entry of q) in
+    let above : 0 < h = column_divisor-pos of pivot q positive in
+    let small = divisor_is_entry of pivot q factor is not_zero positive in
+    let y : pos h *ℤ (b *ℤ entry pivot k) ≡ entry of q *ℤ entry pivot k = sym (pivot_here (pos h) b (entry pivot k)) ∙ ap (λ v. v *ℤ entry pivot k) (exact_pivot of pivot q) in
+    let pivot_fits : FitsEntry (b *ℤ entry pivot k) = fits_share h d (b *ℤ entry pivot k) (entry pivot k) small.0 small.1 (ap unsigned_abs y ∙ unsigned_abs-mul (entry of q) (entry pivot k) ∙ sym (unsigned_abs-mul (pos d) (entry pivot k))) (fits k below) in
+    by_eq k 0
+    (λ e.
+    let o : entry of k ≡ pos 0 = ap (entry of) e ∙ is.zero_there in
+    let size : unsigned_abs (a *ℤ entry of k -ℤ b *ℤ entry pivot k) ≡ unsigned_abs (b *ℤ entry pivot k) = ap unsigned_abs (ap (λ z. a *ℤ z -ℤ b *ℤ entry pivot k) o ∙ less_zero a (b *ℤ entry pivot k)) ∙ abs-neg (b *ℤ entry pivot k) in
+    record {
+      target_product = subst FitsEntry (sym (ap (λ z. a *ℤ z) o ∙ times_zero a)) zero_fits;
+      pivot_product = pivot_fits;
+      difference = subst (λ n. n < 2 ^ 127) (sym size) pivot_fits;
+    })
+    (λ differ.
+    let x : pos h *ℤ (a *ℤ entry of k) ≡ entry pivot q *ℤ entry of k = sym (pivot_here (pos h) a (entry of k)) ∙ ap (λ v. v *ℤ entry of k) (exact_target of pivot q) in
+    let same : a *ℤ entry of k ≡ b *ℤ entry pivot k = same_from_product (pos h) (a *ℤ entry of k) (b *ℤ entry pivot k) (omega (arith, linear, above))
+    (x ∙ ap (λ v. v *ℤ entry of k) (is.elsewhere q not_zero) ∙ turned_here (pos factor) (entry of q) (entry of k) ∙ ap (λ v. entry of q *ℤ v) (sym (is.elsewhere k differ)) ∙ sym y) in
+    record {
+      target_product = subst FitsEntry (sym same) pivot_fits;
+      pivot_product = pivot_fits;
+      difference = subst FitsEntry (sym (ap (λ z. z -ℤ b *ℤ entry pivot k) same ∙ less_itself (b *ℤ entry pivot k))) zero_fits;
     })
