@@ -1,7 +1,7 @@
 ghost use Rattle.std.specs.Prelude.{◌≡◌, ◌≢◌, ℕ, ◌<◌, ◌^◌, [], length, map, slice_index_or, pos, ◌<ℤ◌, OnOk, OnErr, IfErr, IfSome, IfNone, unsigned_abs};
 ghost use Rattle.std.specs.List.{All};
 ghost use Rattle.row_definitions.specs.Combination.{FitsEntry, PassesNowhere, combined};
-ghost use Rattle.pivot_definitions.specs.Tableaus.{SimplexTableau, column_count, row_at, entry_at, others_combined, IsKeptPivot, PivotFits, PivotPassesFirst};
+ghost use Rattle.pivot_definitions.specs.Tableaus.{SimplexTableau, column_count, row_at, entry_at, others_combined, HasSameShape, IsKeptPivot, PivotFits, PivotPassesFirst};
 ghost use Rattle.fraction_tableau.specs.Combinable.{Combinable};
 
 use crate::row::Row;
@@ -10,7 +10,9 @@ use crate::tableau::Tableau;
 /// A pivot passed 128 bits: in this row, the objective row being the last, and in this column.
 #[derive(Clone, Copy, Debug, PartialEq, Eq)]
 pub struct Passed2 {
+    /// The row, from 0 on.
     pub row: u32,
+    /// The column, from 0 on, the right side being the last.
     pub column: u32,
 }
 
@@ -28,6 +30,8 @@ impl Tableau {
 
         ensures passes_first { IfErr result (λ place. PivotPassesFirst self.old row column place.row place.column) }
         ensures unchanged { OnErr result (self.new ≡ self.old) }
+
+        ensures shape { HasSameShape self.old self.new }
     {
         if let Some(place) = self.first_passing(row as usize, column as usize) {
             return Err(place);

@@ -52,6 +52,7 @@ impl Tableau {
     /// How many columns the program has: from 1 to 2,048.
     pub fn columns(&self) -> u32
         ensures value { result ≡ self.now.columns }
+        ensures some { 0 < result }
         ensures few { result ≤ 2048 }
     {
         self.columns
@@ -60,8 +61,8 @@ impl Tableau {
     /// How many rows the program has, which is how many constraint rows there are: from 1 to 2,048.
     pub fn rows(&self) -> u32
         ensures value { result ≡ length self.now.basis }
+        ensures some { 0 < result }
         ensures few { result ≤ 2048 }
-        ensures kept { IsKeptTableau self.now }
     {
         self.basis.len() as u32
     }
@@ -69,14 +70,15 @@ impl Tableau {
     /// The column that is basic in a row of the program.
     pub fn basic(&self, row: u32) -> u32
         requires { row < length self.now.basis }
-        ensures { result ≡ basic_column self.now row }
+        ensures value { result ≡ basic_column self.now row }
+        ensures within { result < column_count self.now }
     {
         self.basis[row as usize]
     }
 
     /// The entry of a row in a column; the objective row is the last, and the right side the last column.
     pub fn entry(&self, row: u32, column: u32) -> i128
-        requires row { row < length self.now.rows }
+        requires row { row < length self.now.basis + 1 }
         requires column { column < column_count self.now + 1 }
         ensures value { result ≡ entry_at self.now row column }
         ensures fits { FitsEntry result }
@@ -99,7 +101,7 @@ impl Tableau {
         ensures value { result ≡ objective self.now column }
         ensures fits { FitsEntry result }
     {
-        self.entry(self.rows(), column)
+        self.entry(self.basis.len() as u32, column)
     }
 
     /// The value of a column in the basic solution as a fraction: the right side and the entry of the row in which the

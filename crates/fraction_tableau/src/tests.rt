@@ -1,4 +1,5 @@
-ghost use Rattle.std.specs.Prelude.{◌≡◌, IfOk};
+ghost use Rattle.std.specs.Prelude.{◌≡◌, ◌+◌, ◌<◌, length, IfOk};
+ghost use Rattle.pivot_definitions.specs.Tableaus.{column_count, HasSameShape};
 
 use super::*;
 use crate::row::Row;
@@ -17,34 +18,38 @@ fn program(
     rows: u32,
     coefs: &[i128],
     right: &[i128],
-) -> Result<Program, Fail> {
+) -> Result<Program, Fail>
+    ensures { IfOk result (λ program. (program.columns ≡ columns) × (program.rows ≡ rows)) }
+{
     if !Program::fits(columns, rows, coefs, right) {
         return Err(Fail::from("these make no program"));
     }
     Ok(Program::of(columns, rows, coefs.to_vec(alloc)?, right.to_vec(alloc)?))
 }
 
-fn pivoted(rt: &impl Abort, tableau: &mut Tableau, row: u32, column: u32) -> Result<(), Passed2> {
-    let rows = tableau.rows();
-    let columns = tableau.columns();
-    assert!(rt; row < rows && column < columns + rows);
+fn pivoted(rt: &impl Abort, tableau: &mut Tableau, row: u32, column: u32) -> Result<(), Passed2>
+    requires row { row < length tableau.old.basis }
+    requires column { column < column_count tableau.old }
+    ensures { HasSameShape tableau.old tableau.new }
+{
     assert!(rt; tableau.entry(row, column) > 0);
     tableau.pivot(row, column)
 }
 
-fn entries(rt: &impl Abort, alloc: Global, tableau: &Tableau, row: u32) -> Result<Vec<i128>, Fail> {
-    let rows = tableau.rows();
-    let columns = tableau.columns();
-    assert!(rt; row <= rows);
+fn entries(alloc: Global, tableau: &Tableau, row: u32) -> Result<Vec<i128>, Fail>
+    requires { row < length tableau.now.basis + 1 }
+{
     let mut entries = Vec::new(alloc);
-    for column in 0..columns + rows + 1 {
+    for column in 0..tableau.columns() + tableau.rows() + 1 {
         entries.push(tableau.entry(row, column))?;
     }
     Ok(entries)
 }
 
 // Three results, three offers: each loses twice what it gains elsewhere, so no stakes gain at every result.
-fn three_way(alloc: Global) -> Result<Program, Fail> {
+fn three_way(alloc: Global) -> Result<Program, Fail>
+    ensures { IfOk result (λ program. (program.columns ≡ 4) × (program.rows ≡ 5)) }
+{
     program(
         alloc,
         4,
@@ -62,15 +67,15 @@ fn builds_the_slack_columns_basic(rt: HostRuntime) -> Result<(), Fail> {
     assert!(rt; program.is_capped());
     let tableau = Tableau::build(rt.alloc(), &program)?;
     assert_eq!(rt;
-        entries(&rt, rt.alloc(), &tableau, 2)?.as_slice(),
+        entries(rt.alloc(), &tableau, 2)?.as_slice(),
         [1, -2, 1, 1, 0, 0, 1, 0, 0, 0].as_slice()
     );
     assert_eq!(rt;
-        entries(&rt, rt.alloc(), &tableau, 4)?.as_slice(),
+        entries(rt.alloc(), &tableau, 4)?.as_slice(),
         [1, 0, 0, 0, 0, 0, 0, 0, 1, 1].as_slice()
     );
     assert_eq!(rt;
-        entries(&rt, rt.alloc(), &tableau, 5)?.as_slice(),
+        entries(rt.alloc(), &tableau, 5)?.as_slice(),
         [1, 0, 0, 0, 0, 0, 0, 0, 0, 0].as_slice()
     );
     Ok(())
@@ -79,23 +84,19 @@ fn builds_the_slack_columns_basic(rt: HostRuntime) -> Result<(), Fail> {
 #[test]
 fn pivots_to_a_level_of_zero(rt: HostRuntime) -> Result<(), Fail> {
     let mut tableau = Tableau::build(rt.alloc(), &three_way(rt.alloc())?)?;
-    for (row, column) in [(0, 0), (1, 2), (2, 3)] {
-        assert_eq!(rt; pivoted(&rt, &mut tableau, row, column), Ok(()));
-    }
+    assert_eq!(rt; pivoted(&rt, &mut tableau, 0, 0), Ok(()));
+    assert_eq!(rt; pivoted(&rt, &mut tableau, 1, 2), Ok(()));
+    assert_eq!(rt; pivoted(&rt, &mut tableau, 2, 3), Ok(()));
     assert_eq!(rt;
-        entries(&rt, rt.alloc(), &tableau, 0)?.as_slice(),
+        entries(rt.alloc(), &tableau, 0)?.as_slice(),
         [3, 0, 0, 0, 1, 1, 1, 0, 0, 0].as_slice()
     );
     assert_eq!(rt;
-        entries(&rt, rt.alloc(), &tableau, 5)?.as_slice(),
+        entries(rt.alloc(), &tableau, 5)?.as_slice(),
         [0, 0, 0, 0, -1, -1, -1, 0, 0, 0].as_slice()
     );
-    let rows = tableau.rows();
-    assert!(rt; rows == 5);
     assert_eq!(rt; tableau.basic(2), 3);
     assert_eq!(rt; tableau.multiplier(1), 1);
-    let columns = tableau.columns();
-    assert!(rt; columns == 4);
     assert_eq!(rt; tableau.value(0), (0, 3));
     assert_eq!(rt; tableau.value(1), (0, 1));
     Ok(())
@@ -111,11 +112,11 @@ fn passes_in_column_0_and_stays(rt: HostRuntime) -> Result<(), Fail> {
         Err(Passed2 { row: 1, column: 0 })
     );
     assert_eq!(rt;
-        entries(&rt, rt.alloc(), &tableau, 0)?.as_slice(),
+        entries(rt.alloc(), &tableau, 0)?.as_slice(),
         [LARGE, 1, 0, 0, 0].as_slice()
     );
     assert_eq!(rt;
-        entries(&rt, rt.alloc(), &tableau, 2)?.as_slice(),
+        entries(rt.alloc(), &tableau, 2)?.as_slice(),
         [1, 0, 0, 1, 1].as_slice()
     );
     Ok(())
@@ -140,7 +141,9 @@ fn row(alloc: Global, numbers: &[i128]) -> Result<Row, Fail>
 }
 
 // A tableau that no program builds: one constraint row, and an objective row whose second number is large.
-fn large_objective(alloc: Global) -> Result<Tableau, Fail> {
+fn large_objective(alloc: Global) -> Result<Tableau, Fail>
+    ensures { IfOk result (λ tableau. (tableau.columns ≡ 1) × (length tableau.basis ≡ 1)) }
+{
     let mut rows = Vec::new(alloc);
     rows.push(row(alloc, &[3, 1, 0])?)?;
     rows.push(row(alloc, &[1, LARGE, 0])?)?;
@@ -162,11 +165,10 @@ fn passes_in_the_objective_row(rt: HostRuntime) -> Result<(), Fail> {
         Err(Passed2 { row: 1, column: 1 })
     );
     assert_eq!(rt;
-        entries(&rt, rt.alloc(), &tableau, 1)?.as_slice(),
+        entries(rt.alloc(), &tableau, 1)?.as_slice(),
         [1, LARGE, 0].as_slice()
     );
-    let rows = tableau.rows();
-    assert!(rt; rows == 1);
+    assert_eq!(rt; tableau.rows(), 1);
     assert_eq!(rt; tableau.basic(0), 1);
     Ok(())
 }

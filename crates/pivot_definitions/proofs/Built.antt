@@ -95,5 +95,5 @@ built_facts program is fits few_columns few columns n rows all last basis column
     let same_rows : all ≡ (built program).rows = all_is ∙ ap₂ (λ xs x. xs ++ x ∷ []) (rows_is ∙ ap (λ k. map (built_row program) (range_with_len 0 k)) n_is) last_is in
     let same_basis : basis ≡ (built program).basis = basis_is ∙ ap₂ (λ a k. range_with_len a k) columns_is n_is in
     let whole : built program ≡ record { columns = columns; rows = all; basis = basis } = sym (ap₂ (λ xs bs. record { columns = columns; rows = xs; basis = bs }) same_rows same_basis ∙ ap (λ k. record { columns = k; rows = (built program).rows; basis = (built program).basis }) columns_is) in
-    let facts : IsKeptTableau (built program) = record { few_columns = few_columns; shape = built-IsTableau program is; fits = built-HasFittingEntries program is fits; primitive = built-HasPrimitiveRows program is; few_rows = omega (arith, length-range program.columns program.rows) } in
+    let facts : IsKeptTableau (built program) = record { some_column = is.some_column; some_row = omega (arith, length-range program.columns program.rows, is.some_row); few_columns = few_columns; shape = built-IsTableau program is; fits = built-HasFittingEntries program is fits; primitive = built-HasPrimitiveRows program is; few_rows = omega (arith, length-range program.columns program.rows) } in
     subst IsKeptTableau whole facts

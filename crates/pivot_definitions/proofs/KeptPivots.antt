@@ -37,6 +37,8 @@ kept_pivot_kept t p q is row column fits =
     let same_count : length (kept_pivot t p q).basis ≡ length t.basis = length-set t.basis p q in
     let wide : length (row_at t p) ≡ column_count (kept_pivot t p q) + 1 = width t is.shape p within ∙ ap (λ n. t.columns + n + 1) (sym same_count) in
     record {
+      some_column = is.some_column;
+      some_row = omega (arith, same_count, is.some_row);
       few_columns = is.few_columns;
       few_rows = omega (arith, same_count, is.few_rows);
       shape = record {

@@ -57,13 +57,19 @@ HasFittingEntries tableau = All (λ row. All FitsEntry row) tableau.rows
 abbrev pub HasPrimitiveRows : SimplexTableau → Type 0
 HasPrimitiveRows tableau = All (λ row. primitive_row row ≡ row) tableau.rows
 
--- a tableau of at most 2,048 columns and rows, in kept form and with entries that fit
+-- a tableau of 1 to 2,048 columns and 1 to 2,048 rows, in kept form and with entries that fit
 pub record IsKeptTableau (tableau : SimplexTableau) : Type 0 where
+  pub some_column : 0 < tableau.columns
+  pub some_row : 0 < length tableau.basis
   pub few_columns : tableau.columns ≤ 2048
   pub few_rows : length tableau.basis ≤ 2048
   pub shape : IsTableau tableau
   pub fits : HasFittingEntries tableau
   pub primitive : HasPrimitiveRows tableau
+
+-- one tableau has as many columns and rows as the other
+abbrev pub HasSameShape : SimplexTableau → SimplexTableau → Type 0
+HasSameShape before after = (after.columns ≡ before.columns) × (length after.basis ≡ length before.basis)
 
 -- constraint row `row` as built: the coefficients, 1 in the row's slack column and 0 in the others, and the right side
 abbrev pub built_row : LinearProgram → ℕ → List ℤ

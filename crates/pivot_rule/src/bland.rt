@@ -1,4 +1,5 @@
 ghost use Rattle.std.specs.Prelude.{◌≡◌};
+ghost use Rattle.pivot_definitions.specs.Tableaus.{HasSameShape};
 ghost use Rattle.pivot_rule.specs.Ends.{IsCappedStart, RunEndsAs, BestIsBest, EndIsOne};
 
 use crate::choice::choose;
@@ -10,17 +11,25 @@ pub enum RunEnd {
     /// After so many pivots nothing is left to choose: column 0 is as large as the program lets it be.
     Best(u32),
     /// After so many pivots the next would pass 128 bits, first in this row, the objective row being the last, and column.
-    Wide { pivots: u32, row: u32, column: u32 },
+    Wide {
+        /// How many pivots were made: fewer than the budget.
+        pivots: u32,
+        /// The row of the first place, from 0 on.
+        row: u32,
+        /// The column of the first place, from 0 on, the right side being the last.
+        column: u32,
+    },
     /// As many pivots were made as the budget has, and a choice remains.
     OutOfPivots(u32),
 }
 
-/// Pivots by Bland's rule, as often as the budget has it. The tableau is as built, of a program whose last row has 1 in
-/// column 0, 0 elsewhere, and the right side 1. It is left as it is after the last pivot made. Takes no memory.
+/// Pivots by Bland's rule, at most as often as the budget has it. The tableau is as built, of a program whose last row has
+/// 1 in column 0, 0 elsewhere, and the right side 1. It is left as it is after the last pivot made. Takes no memory.
 pub fn run(tableau: &mut Tableau, budget: u32) -> RunEnd
     requires { IsCappedStart tableau.old }
     ensures end { RunEndsAs tableau.old budget result tableau.new }
     ensures best { BestIsBest result tableau.new }
+    ensures shape { HasSameShape tableau.old tableau.new }
 {
     for pivots in 0..budget {
         let Some(choice) = choose(tableau) else {

@@ -2,8 +2,9 @@
 //! with a positive entry in the objective row the lowest enters, and of the rows of least ratio the one leaves whose basic
 //! column is the lowest.
 //!
-//! - `run`: pivots until nothing is left to choose, a number would pass 128 bits, or the budget of pivots is spent. A pivot
-//!   costs a scan of the objective row, of a column, and of each row that is not 0 in it. Takes no memory.
+//! - `run`: pivots until nothing is left to choose, a number would pass 128 bits, or the budget of pivots is spent. A
+//!   choice costs a scan of the objective row and one of a column, and its pivot a few scans of each other row that is not 0
+//!   in that column. Takes no memory.
 //!
 //! A program's last row caps column 0, so no run is unbounded, and no answer says that it is.
 #![tactic(auto)]

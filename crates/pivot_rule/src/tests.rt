@@ -1,10 +1,9 @@
-ghost use Rattle.std.specs.Prelude.{IfOk};
+ghost use Rattle.std.specs.Prelude.{◌≡◌, IfOk};
 ghost use Rattle.pivot_rule.specs.Ends.{IsCappedStart};
 
 use super::*;
 use fraction_tableau::{Program, Tableau};
 use std::alloc::Global;
-use std::process::Abort;
 use std::test::Fail;
 
 const LARGEST: i128 = i128::MAX;
@@ -19,7 +18,8 @@ fn started(
     coefs: &[i128],
     right: &[i128],
 ) -> Result<Tableau, Fail>
-    ensures { IfOk result IsCappedStart }
+    ensures capped { IfOk result IsCappedStart }
+    ensures columns { IfOk result (λ tableau. tableau.columns ≡ columns) }
 {
     if !Program::fits(columns, rows, coefs, right) {
         return Err(Fail::from("these make no program"));
@@ -41,21 +41,10 @@ fn has_multipliers(tableau: &Tableau, multipliers: &[i128]) -> bool {
         && (0..tableau.rows()).all(|row| tableau.multiplier(row) == multipliers[row as usize])
 }
 
-fn level(rt: &impl Abort, tableau: &Tableau) -> (i128, i128) {
-    let columns = tableau.columns();
-    assert!(rt; 0 < columns);
-    tableau.value(0)
-}
-
-fn objective(rt: &impl Abort, tableau: &Tableau, column: u32) -> i128 {
-    let columns = tableau.columns();
-    assert!(rt; column < columns);
-    tableau.objective(column)
-}
-
 // Three results and three offers: each gains 1 at two of them and loses 2 at the third, so no stakes gain at all three.
 fn three_way(alloc: Global) -> Result<Tableau, Fail>
-    ensures { IfOk result IsCappedStart }
+    ensures capped { IfOk result IsCappedStart }
+    ensures columns { IfOk result (λ tableau. tableau.columns ≡ 4) }
 {
     started(
         alloc,
@@ -74,7 +63,7 @@ fn ends_at_a_level_of_zero(rt: HostRuntime) -> Result<(), Fail> {
     assert_eq!(rt; run(&mut tableau, 4096), RunEnd::Best(3));
     assert!(rt; has_basis(&tableau, &[0, 2, 3, 7, 8]));
     assert!(rt; has_multipliers(&tableau, &[1, 1, 1, 0, 0]));
-    assert_eq!(rt; level(&rt, &tableau), (0, 3));
+    assert_eq!(rt; tableau.value(0), (0, 3));
     Ok(())
 }
 
@@ -114,7 +103,9 @@ fn weighs_the_results_of_a_whole_match(rt: HostRuntime) -> Result<(), Fail> {
     assert_eq!(rt; run(&mut tableau, 4096), RunEnd::Best(10));
     assert!(rt; has_basis(&tableau, &[0, 11, 7, 8, 5, 15, 16, 17, 18]));
     assert!(rt; has_multipliers(&tableau, &[98, 0, 106, 105, 48, 0, 0, 0, 0]));
-    assert_eq!(rt; level(&rt, &tableau).0, 0);
+    // Worked out apart from the program, in whole numbers without bound. By these multipliers the rows make
+    // 98 + 106 + 105 + 48 = 357 times column 0.
+    assert_eq!(rt; tableau.value(0), (0, 357));
     Ok(())
 }
 
@@ -123,12 +114,12 @@ fn ends_at_the_level_of_the_program(rt: HostRuntime) -> Result<(), Fail> {
     // Column 0 is at most 0, by a row without room.
     let mut no_room = started(rt.alloc(), 1, 2, &[1, 1], &[0, 1])?;
     assert_eq!(rt; run(&mut no_room, 3), RunEnd::Best(1));
-    assert_eq!(rt; level(&rt, &no_room), (0, 1));
+    assert_eq!(rt; no_room.value(0), (0, 1));
 
     // Three times column 0 is at most column 1, which is at most 2.
     let mut two_thirds = started(rt.alloc(), 2, 3, &[3, -1, 0, 1, 1, 0], &[0, 2, 1])?;
     assert_eq!(rt; run(&mut two_thirds, 10), RunEnd::Best(2));
-    assert_eq!(rt; level(&rt, &two_thirds), (2, 3));
+    assert_eq!(rt; two_thirds.value(0), (2, 3));
 
     // Column 0 is at most column 1 and at most column 2, whose sum is at most 1: equal ratios.
     let mut half = started(
@@ -140,13 +131,13 @@ fn ends_at_the_level_of_the_program(rt: HostRuntime) -> Result<(), Fail> {
     )?;
     assert_eq!(rt; run(&mut half, 10), RunEnd::Best(3));
     assert!(rt; has_basis(&half, &[0, 1, 2, 6]));
-    assert_eq!(rt; level(&rt, &half), (1, 2));
+    assert_eq!(rt; half.value(0), (1, 2));
 
     // Column 0 is at most column 1, which is at most 2: the cap ends the run.
     let mut capped = started(rt.alloc(), 2, 4, &[1, -1, 1, -1, 0, 1, 1, 0], &[0, 0, 2, 1])?;
     assert_eq!(rt; run(&mut capped, 10), RunEnd::Best(2));
     assert!(rt; has_multipliers(&capped, &[0, 0, 0, 1]));
-    assert_eq!(rt; level(&rt, &capped), (1, 1));
+    assert_eq!(rt; capped.value(0), (1, 1));
     Ok(())
 }
 
@@ -181,7 +172,7 @@ fn says_where_a_number_would_pass_128_bits(rt: HostRuntime) -> Result<(), Fail> 
             column: 0
         }
     );
-    assert_eq!(rt; level(&rt, &later), (0, LARGE));
+    assert_eq!(rt; later.value(0), (0, LARGE));
     Ok(())
 }
 
@@ -198,7 +189,7 @@ fn says_the_constraint_row_where_the_objective_row_passes_too(rt: HostRuntime) -
             column: 1
         }
     );
-    assert_eq!(rt; objective(&rt, &tableau, 1), 3);
-    assert_eq!(rt; level(&rt, &tableau), (0, 1));
+    assert_eq!(rt; tableau.objective(1), 3);
+    assert_eq!(rt; tableau.value(0), (0, 1));
     Ok(())
 }

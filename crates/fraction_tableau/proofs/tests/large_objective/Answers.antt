@@ -21,6 +21,8 @@ three_fit a b c a_fits b_fits c_fits = All-cons FitsEntry a (b ∷ c ∷ []) a_f
 
 facts : IsKeptTableau (record { columns = 1; rows = constraint ∷ objective ∷ []; basis = 1 ∷ [] })
 facts = record {
+  some_column = omega arith;
+  some_row = omega arith;
   few_columns = omega arith;
   few_rows = omega arith;
   shape = record {
