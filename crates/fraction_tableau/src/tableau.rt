@@ -63,6 +63,8 @@ impl Tableau {
         ensures value { result ≡ length self.now.basis }
         ensures some { 0 < result }
         ensures few { result ≤ 2048 }
+        // Every tableau is one in kept form.
+        ensures kept { IsKeptTableau self.now }
     {
         self.basis.len() as u32
     }
