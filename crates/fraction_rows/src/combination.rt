@@ -100,9 +100,9 @@ pub fn combine_within(target: &mut [i128], pivot: &[i128], at: usize)
 
 // What the two rows are multiplied by.
 #[derive(Clone, Copy)]
-struct Factors {
-    target: i128,
-    pivot: i128,
+pub(crate) struct Factors {
+    pub(crate) target: i128,
+    pub(crate) pivot: i128,
 }
 
 // The two entries of the column, divided by their greatest common divisor.
@@ -119,7 +119,7 @@ fn factors_of(target: &[i128], pivot: &[i128], at: usize) -> Factors
 }
 
 // An entry of the combination, where its products and their difference fit.
-fn checked_entry(target: i128, pivot: i128, factors: Factors) -> Option<i128>
+pub(crate) fn checked_entry(target: i128, pivot: i128, factors: Factors) -> Option<i128>
     ensures { SomeIff result (ProductsFit factors.target factors.pivot target pivot) (factors.target *ℤ target -ℤ factors.pivot *ℤ pivot) }
 {
     let target_product = product(factors.target, target)?;
@@ -127,7 +127,7 @@ fn checked_entry(target: i128, pivot: i128, factors: Factors) -> Option<i128>
     difference(target_product, pivot_product)
 }
 
-fn fitting_entry(target: i128, pivot: i128, factors: Factors) -> i128
+pub(crate) fn fitting_entry(target: i128, pivot: i128, factors: Factors) -> i128
     requires { ProductsFit factors.target factors.pivot target pivot }
     ensures { result ≡ factors.target *ℤ target -ℤ factors.pivot *ℤ pivot }
 {

@@ -19,4 +19,6 @@ pub use division::primitive;
 pub use narrow::{is_narrow, narrow_law};
 
 #[cfg(test)]
+mod plain;
+#[cfg(test)]
 mod tests;
