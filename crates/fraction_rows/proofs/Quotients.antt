@@ -1,14 +1,18 @@
 -- A row divided, and the division undone.
-use Rattle.std.proofs.Common.{◌≡◌, ℕ, zero, suc, ◌<◌, ◌≤◌, List, [], ◌∷◌, map, ℤ, pos, ◌*ℤ◌, ◌<ℤ◌, unsigned_abs, All, refl, sym, ap₂, subst, subst₂, ◌∙◌, inl, inr, eq-or-lt_of_le, arith}
-use Rattle.std.specs.Int.{◌∣◌, IsGcd}
+use Rattle.std.proofs.Common.{◌≡◌, ℕ, zero, suc, ◌+◌, ◌<◌, ◌≤◌, List, [], ◌∷◌, length, take, set, map, ℤ, pos, ◌*ℤ◌, ◌<ℤ◌, unsigned_abs, All, SFits, to_z, of_z, to_z-of_z, refl, sym, ap, ap₂, subst, subst₂, ◌∙◌, inl, inr, eq-or-lt_of_le, arith}
+use Rattle.std.specs.Int.{◌∣◌, w128, IsGcd}
+use Rattle.std.proofs.lemmas.List.{length-map}
 use Rattle.std.specs.List.{Contains}
 use Rattle.std.proofs.lemmas.Nat.Gcd.{dvd_antisymm, le_of_dvd}
 use Rattle.std.proofs.lemmas.List.Elements.{All-nil, All-cons, All-head, All-tail, All-contains}
 use Rattle.std.proofs.Math.Nat.{eq-zero_of_zero-dvd}
-use Rattle.row_definitions.specs.Rows.{row_divisor, divided, primitive_row}
+use Rattle.row_definitions.specs.Rows.{entry, row_divisor, divided, primitive_row}
 use Rattle.row_definitions.specs.Combination.{FitsEntry}
 use Rattle.row_definitions.proofs.Divisors.{Divides, row_divisor_is, All-from_Divides, Divides-from_All}
 use Rattle.row_definitions.proofs.Primitives.{primitive_row-undivided}
+use Rattle.row_definitions.proofs.Combinations.{entry-divided}
+use Rattle.fraction_rows.proofs.Written.{written, set-written, entry-written}
+use Rattle.fraction_rows.proofs.Scan.{Divides-more}
 use Rattle.fraction_rows.proofs.Inverses.{multiplied_back}
 
 -- the quotients times the divisor
@@ -54,3 +58,16 @@ pub primitive-undivided : (old row : List ℤ) (d : ℕ) → row ≡ old → row
 primitive-undivided old row zero same multiple zeros h = same ∙ sym (primitive_row-undivided old (let none = zeros refl in omega arith))
 primitive-undivided old row (suc zero) same multiple zeros h = same ∙ sym (primitive_row-undivided old (le_of_dvd (omega arith) multiple))
 primitive-undivided old row (suc (suc d)) same multiple zeros h = absurd (omega arith)
+
+-- one more quotient is written
+pub divided_more : (d : ℕ) (old row : List ℤ) (i : ℕ) (q : ℤ) → row ≡ written (map (divided d) old) old i → i < length old → SFits w128 (entry row i) → SFits w128 q → q ≡ divided d (to_z w128 (of_z w128 (entry row i)))
+    → set row i (to_z w128 (of_z w128 q)) ≡ written (map (divided d) old) old (i + 1)
+divided_more d old row i q so_far within x_fits q_fits is =
+    let n = length-map old (divided d) in
+    let x_is = to_z-of_z x_fits ∙ ap (λ r. entry r i) so_far ∙ entry-written (map (divided d) old) old i n within in
+    ap (λ r. set r i (to_z w128 (of_z w128 q))) so_far ∙ set-written (map (divided d) old) old i _ n within (to_z-of_z q_fits ∙ is ∙ ap (divided d) x_is ∙ sym (entry-divided d old i))
+
+-- and one more entry is a multiple
+pub divides_more : (d : ℕ) (old row : List ℤ) (i : ℕ) → row ≡ written (map (divided d) old) old i → i < length old → SFits w128 (entry row i) → Divides d (take i old) → d ∣ unsigned_abs (to_z w128 (of_z w128 (entry row i))) → Divides d (take (i + 1) old)
+divides_more d old row i so_far within x_fits before divides =
+    Divides-more d old i within before (subst (λ z. d ∣ unsigned_abs z) (to_z-of_z x_fits ∙ ap (λ r. entry r i) so_far ∙ entry-written (map (divided d) old) old i (length-map old (divided d)) within) divides)

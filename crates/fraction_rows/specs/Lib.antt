@@ -1,2 +1,3 @@
+pub mod Combinable
 pub mod Exact
 pub mod Narrow

@@ -1,8 +1,9 @@
 // The combination of two rows that makes the first 0 in a column.
-ghost use Rattle.std.specs.Prelude.{◌≡◌, ◌<◌, ◌^◌, length, pos, ◌<ℤ◌, ◌-ℤ◌, ◌*ℤ◌, SomeIff, IfSome, IfNone, OnOk, IfErr, OnErr};
+ghost use Rattle.std.specs.Prelude.{◌≡◌, ◌<◌, ◌^◌, length, ◌-ℤ◌, ◌*ℤ◌, SomeIff, IfSome, IfNone, OnOk, IfErr, OnErr};
 ghost use Rattle.std.specs.List.{All};
-ghost use Rattle.row_definitions.specs.Rows.{entry, IsPositiveMultiple};
+ghost use Rattle.row_definitions.specs.Rows.{IsPositiveMultiple};
 ghost use Rattle.row_definitions.specs.Combination.{FitsEntry, ProductsFit, PassesNowhere, PassesFirst, plain_combination, combined, target_factor, pivot_factor};
+ghost use Rattle.fraction_rows.specs.Combinable.{Combinable};
 
 use crate::division::primitive;
 use crate::divisor::{divisor_of_pair, quotient};
@@ -12,6 +13,7 @@ use crate::narrow::is_narrow;
 /// `2^127 - 1` or below `-(2^127 - 1)`.
 #[derive(Clone, Copy, Debug, PartialEq, Eq)]
 pub struct Passed {
+    /// The column, counted from 0.
     pub column: u32,
 }
 
@@ -21,13 +23,11 @@ pub struct Passed {
 /// the first such column is answered and the target stays as it was. The pivot's entry in the column is above 0, and no
 /// entry is the least `i128`. Both rows have one length, below 2^32, and `at` is one of their columns. Costs a scan of
 /// each row that sees whether both are narrow, `first_passing` where they are not, a scan that writes, and `primitive`.
+/// A pivot of several rows tests all of them before it writes any, so it calls the two halves, `first_passing` and
+/// `combine_within`.
 pub fn combine(target: &mut [i128], pivot: &[i128], at: usize) -> Result<(), Passed>
-    requires lengths { length target.old ≡ length pivot.now }
+    requires combinable { Combinable target.old pivot.now at }
     requires columns { length target.old < 2 ^ 32 }
-    requires at_in_range { at < length target.old }
-    requires positive { pos 0 <ℤ entry pivot.now at }
-    requires target_fits { All FitsEntry target.old }
-    requires pivot_fits { All FitsEntry pivot.now }
 
     ensures ok { OnOk result (target.new ≡ combined target.old pivot.now at) }
     ensures multiple { OnOk result (IsPositiveMultiple (plain_combination target.old pivot.now at) target.new) }
@@ -50,12 +50,8 @@ pub fn combine(target: &mut [i128], pivot: &[i128], at: usize) -> Result<(), Pas
 // The test of `combine`: two narrow rows pass nowhere, which costs a scan of each; only where one of them is not narrow
 // are products formed.
 fn passing(target: &[i128], pivot: &[i128], at: usize) -> Option<u32>
-    requires lengths { length target.now ≡ length pivot.now }
+    requires combinable { Combinable target.now pivot.now at }
     requires columns { length target.now < 2 ^ 32 }
-    requires at_in_range { at < length target.now }
-    requires positive { pos 0 <ℤ entry pivot.now at }
-    requires target_fits { All FitsEntry target.now }
-    requires pivot_fits { All FitsEntry pivot.now }
 
     ensures first { IfSome result (PassesFirst target.now pivot.now at) }
     ensures nowhere { IfNone result (PassesNowhere target.now pivot.now at) }
@@ -70,12 +66,8 @@ fn passing(target: &[i128], pivot: &[i128], at: usize) -> Option<u32>
 /// passes: the first column in which the combination passes 128 bits. The conditions are those of `combine`. A caller that
 /// knows that both rows are narrow, as `is_narrow` says, need not ask.
 pub fn first_passing(target: &[i128], pivot: &[i128], at: usize) -> Option<u32>
-    requires lengths { length target.now ≡ length pivot.now }
+    requires combinable { Combinable target.now pivot.now at }
     requires columns { length target.now < 2 ^ 32 }
-    requires at_in_range { at < length target.now }
-    requires positive { pos 0 <ℤ entry pivot.now at }
-    requires target_fits { All FitsEntry target.now }
-    requires pivot_fits { All FitsEntry pivot.now }
 
     ensures first { IfSome result (PassesFirst target.now pivot.now at) }
     ensures nowhere { IfNone result (PassesNowhere target.now pivot.now at) }
@@ -90,13 +82,9 @@ pub fn first_passing(target: &[i128], pivot: &[i128], at: usize) -> Option<u32>
 }
 
 /// What `combine` does where it passes nowhere, for a caller that tested that. The other conditions are those of
-/// `combine`.
+/// `combine`, but for the bound of the length.
 pub fn combine_within(target: &mut [i128], pivot: &[i128], at: usize)
-    requires lengths { length target.old ≡ length pivot.now }
-    requires at_in_range { at < length target.old }
-    requires positive { pos 0 <ℤ entry pivot.now at }
-    requires target_fits { All FitsEntry target.old }
-    requires pivot_fits { All FitsEntry pivot.now }
+    requires combinable { Combinable target.old pivot.now at }
     requires passes_nowhere { PassesNowhere target.old pivot.now at }
 
     ensures value { target.new ≡ combined target.old pivot.now at }
@@ -112,18 +100,14 @@ pub fn combine_within(target: &mut [i128], pivot: &[i128], at: usize)
 
 // What the two rows are multiplied by.
 #[derive(Clone, Copy)]
-struct Factors {
-    target: i128,
-    pivot: i128,
+pub(crate) struct Factors {
+    pub(crate) target: i128,
+    pub(crate) pivot: i128,
 }
 
 // The two entries of the column, divided by their greatest common divisor.
 fn factors_of(target: &[i128], pivot: &[i128], at: usize) -> Factors
-    requires lengths { length target.now ≡ length pivot.now }
-    requires at_in_range { at < length target.now }
-    requires positive { pos 0 <ℤ entry pivot.now at }
-    requires target_fits { All FitsEntry target.now }
-    requires pivot_fits { All FitsEntry pivot.now }
+    requires { Combinable target.now pivot.now at }
     ensures target { result.target ≡ target_factor target.now pivot.now at }
     ensures pivot { result.pivot ≡ pivot_factor target.now pivot.now at }
 {
@@ -135,7 +119,7 @@ fn factors_of(target: &[i128], pivot: &[i128], at: usize) -> Factors
 }
 
 // An entry of the combination, where its products and their difference fit.
-fn checked_entry(target: i128, pivot: i128, factors: Factors) -> Option<i128>
+pub(crate) fn checked_entry(target: i128, pivot: i128, factors: Factors) -> Option<i128>
     ensures { SomeIff result (ProductsFit factors.target factors.pivot target pivot) (factors.target *ℤ target -ℤ factors.pivot *ℤ pivot) }
 {
     let target_product = product(factors.target, target)?;
@@ -143,7 +127,7 @@ fn checked_entry(target: i128, pivot: i128, factors: Factors) -> Option<i128>
     difference(target_product, pivot_product)
 }
 
-fn fitting_entry(target: i128, pivot: i128, factors: Factors) -> i128
+pub(crate) fn fitting_entry(target: i128, pivot: i128, factors: Factors) -> i128
     requires { ProductsFit factors.target factors.pivot target pivot }
     ensures { result ≡ factors.target *ℤ target -ℤ factors.pivot *ℤ pivot }
 {

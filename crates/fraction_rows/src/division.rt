@@ -27,6 +27,7 @@ pub fn primitive(row: &mut [i128])
 }
 
 // Divides each entry, or leaves the row as it was where the divisor does not divide one: the first such is answered.
+#[tactic(auto, using(crate::proofs::Quotients::divided_more, crate::proofs::Quotients::divides_more))]
 fn divide(row: &mut [i128], divisor: ExactDivisor) -> Result<(), i128>
     requires { All FitsEntry row.old }
     ensures divides { OnOk result (All (λ x. unsigned_abs divisor.divisor ∣ unsigned_abs x) row.old) }

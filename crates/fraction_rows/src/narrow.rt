@@ -1,11 +1,10 @@
 // Rows whose numbers fit 64 bits.
 ghost use Rattle.std.specs.Prelude.{◌↔◌, IsTrue};
 ghost use Rattle.std.specs.List.{All};
-ghost use Rattle.fraction_rows.specs.Narrow.{IsNarrow};
+ghost use Rattle.fraction_rows.specs.Narrow.{IsNarrow, NarrowRowsPassNowhere};
 
-/// Whether the row is narrow: each of its numbers is from `-(2^63 - 1)` to `2^63 - 1`. No product of two such numbers
-/// passes 126 bits and no difference of two products passes 127, so the combination of two narrow rows passes nowhere.
-/// Costs one scan of the row.
+/// Whether the row is narrow: each of its numbers is from `-(2^63 - 1)` to `2^63 - 1`. The combination of two narrow rows
+/// passes nowhere, which is `narrow_law`. Costs one scan of the row.
 pub fn is_narrow(row: &[i128]) -> bool
     ensures { IsTrue result ↔ All IsNarrow row.now }
 {
@@ -22,3 +21,9 @@ fn is_narrow_number(x: i128) -> bool
 {
     x.unsigned_abs() < 0x8000_0000_0000_0000
 }
+
+/// The combination of two narrow rows passes nowhere, in whichever column: no product of two narrow numbers passes 126
+/// bits, and no difference of two such products passes 127.
+pub fn narrow_law()
+    ensures { NarrowRowsPassNowhere }
+{}

@@ -1,6 +1,21 @@
+ghost use Rattle.std.specs.Prelude.{◌<◌, ◌^◌, length};
+ghost use Rattle.std.specs.List.{All};
+ghost use Rattle.row_definitions.specs.Combination.{FitsEntry};
+ghost use Rattle.fraction_rows.specs.Combinable.{Combinable};
+
 use super::*;
+use crate::plain::{plain_combine, plain_primitive};
+use std::alloc::Global;
+use std::process::Abort;
+use std::test::Fail;
 
 const LARGEST: i128 = i128::MAX;
+
+// 2^126, of which twice is past an entry.
+const LARGE: i128 = 0x4000_0000_0000_0000_0000_0000_0000_0000;
+
+// 10^18 + 9, a prime.
+const PRIME: i128 = 1_000_000_000_000_000_009;
 
 #[test]
 fn passes_in_the_first_column_where_a_product_does(rt: HostRuntime) {
@@ -116,4 +131,83 @@ fn extremes(rt: HostRuntime) {
     let mut fitting = [-1, LARGEST];
     assert_eq!(rt; combine(&mut fitting, &[1, 0], 0), Ok(()));
     assert_eq!(rt; fitting, [0, 1]);
+}
+
+fn compare_primitive(rt: &impl Abort, alloc: Global, row: &[i128]) -> Result<(), Fail>
+    requires { All FitsEntry row.now }
+{
+    let mut divided = row.to_vec(alloc)?;
+    let mut plain = row.to_vec(alloc)?;
+    primitive(&mut divided);
+    plain_primitive(&mut plain);
+    assert_eq!(rt; divided.as_slice(), plain.as_slice());
+    Ok(())
+}
+
+#[test]
+fn primitive_is_the_plain_one(rt: HostRuntime) -> Result<(), Fail> {
+    let alloc = rt.alloc();
+    compare_primitive(&rt, alloc, &[])?;
+    compare_primitive(&rt, alloc, &[-7])?;
+    compare_primitive(&rt, alloc, &[0, 0, 0])?;
+    compare_primitive(&rt, alloc, &[0, 0, -9, 0, 6])?;
+    compare_primitive(&rt, alloc, &[4, -6, 10])?;
+    compare_primitive(&rt, alloc, &[15, -21, 9])?;
+    compare_primitive(&rt, alloc, &[5, 3, 10])?;
+    compare_primitive(&rt, alloc, &[-1, 6, 12])?;
+    compare_primitive(&rt, alloc, &[6, 6, 12, 0, -18, 4])?;
+    compare_primitive(&rt, alloc, &[60, 60, 30, 12, 5])?;
+    compare_primitive(&rt, alloc, &[48, 48, -24, 36, 30])?;
+    compare_primitive(&rt, alloc, &[LARGE, -LARGE, 0])?;
+    compare_primitive(&rt, alloc, &[LARGE, LARGE, 12])?;
+    compare_primitive(&rt, alloc, &[LARGE, LARGE, LARGEST])?;
+    compare_primitive(&rt, alloc, &[LARGEST, LARGEST, -LARGEST])?;
+    compare_primitive(&rt, alloc, &[PRIME * PRIME, -PRIME, 3 * PRIME])?;
+    compare_primitive(&rt, alloc, &[PRIME * PRIME, PRIME * PRIME, -PRIME])
+}
+
+fn compare_combine(
+    rt: &impl Abort,
+    alloc: Global,
+    target: &[i128],
+    pivot: &[i128],
+    at: usize,
+) -> Result<(), Fail>
+    requires combinable { Combinable target.now pivot.now at }
+    requires columns { length target.now < 2 ^ 32 }
+{
+    let mut combined = target.to_vec(alloc)?;
+    let mut plain = target.to_vec(alloc)?;
+    let said = combine(&mut combined, pivot, at);
+    assert_eq!(rt; said, plain_combine(&mut plain, pivot, at));
+    assert_eq!(rt; combined.as_slice(), plain.as_slice());
+    Ok(())
+}
+
+#[test]
+fn combine_is_the_plain_one(rt: HostRuntime) -> Result<(), Fail> {
+    let alloc = rt.alloc();
+    compare_combine(&rt, alloc, &[2, 4, 6], &[4, 2, 0], 0)?;
+    compare_combine(&rt, alloc, &[-2, 4, 6], &[4, 2, 0], 0)?;
+    compare_combine(&rt, alloc, &[5, 0, -7], &[3, 1, 2], 1)?;
+    compare_combine(&rt, alloc, &[4, 6], &[2, 3], 0)?;
+    compare_combine(&rt, alloc, &[0, 0, 9], &[1, 1, 1], 2)?;
+    // Wide, and within 128 bits.
+    compare_combine(&rt, alloc, &[LARGE, LARGE, 3], &[LARGE, 1, 0], 0)?;
+    compare_combine(&rt, alloc, &[PRIME * PRIME, 0, PRIME], &[PRIME, 1, 0], 0)?;
+    compare_combine(&rt, alloc, &[0, LARGEST], &[1, 1], 1)
+}
+
+#[test]
+fn combine_passes_as_the_plain_one(rt: HostRuntime) -> Result<(), Fail> {
+    let alloc = rt.alloc();
+    // In the first column a product of the target, in the last one of the pivot.
+    compare_combine(&rt, alloc, &[LARGE, 0, 1], &[1, 1, 3], 2)?;
+    compare_combine(&rt, alloc, &[3, 1, 0], &[1, 0, LARGE], 0)?;
+    // In the last column the difference alone, at either end.
+    compare_combine(&rt, alloc, &[1, 0, -LARGEST], &[1, 0, 1], 0)?;
+    compare_combine(&rt, alloc, &[1, 0, -LARGEST], &[1, 0, LARGEST], 0)?;
+    compare_combine(&rt, alloc, &[-1, 0, LARGEST], &[1, 0, 1], 0)?;
+    // A product is the least number, which an entry may not be.
+    compare_combine(&rt, alloc, &[1, -LARGE, 0], &[2, 0, 0], 0)
 }

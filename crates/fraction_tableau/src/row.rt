@@ -87,6 +87,10 @@ impl Row {
             return None;
         }
         if self.narrow && pivot.narrow {
+            prove!({
+                fraction_rows::narrow_law();
+                true
+            });
             return None;
         }
         fraction_rows::first_passing(self.entries(), pivot.entries(), column)

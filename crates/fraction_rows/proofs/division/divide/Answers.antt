@@ -1,4 +1,4 @@
-use Rattle.std.proofs.Common.{◌≡◌, ℕ, ◌<◌, ◌*ℤ◌, ◌++◌, List, ℤ, pos, map, length, take, drop, unsigned_abs, set, All, ap, ap₂, subst, subst₂, ◌∙◌, sym, SFits, to_z, of_z, to_z-of_z, rules}
+use Rattle.std.proofs.Common.{◌≡◌, ℕ, ◌<◌, ◌*ℤ◌, ◌++◌, List, ℤ, pos, map, length, take, drop, unsigned_abs, All, ap, ap₂, subst, subst₂, ◌∙◌, sym, SFits, to_z, of_z, to_z-of_z, rules}
 use Rattle.std.specs.Int.{◌∣◌, w128}
 use Rattle.std.proofs.lemmas.List.{length-map, take-map, take_all, take-append-drop}
 use Rattle.std.proofs.lemmas.List.Elements.{All-take}
@@ -8,7 +8,7 @@ use Rattle.row_definitions.specs.Combination.{FitsEntry}
 use Rattle.row_definitions.proofs.Numbers.{divided-zero}
 use Rattle.row_definitions.proofs.Divisors.{Divides, All-from_Divides}
 use Rattle.row_definitions.proofs.Combinations.{entry-divided}
-use Rattle.fraction_rows.proofs.Written.{written, set-written, kept-written, entry-written, take-written, drop-written}
+use Rattle.fraction_rows.proofs.Written.{written, kept-written, entry-written, take-written, drop-written}
 use Rattle.fraction_rows.proofs.Scan.{Divides-more}
 use Rattle.fraction_rows.proofs.Quotients.{undivided, FitsEntry-undivided}
 use Rattle.fraction_rows.proofs.division.divide.Goals as goal
@@ -65,21 +65,6 @@ returns-in-None-clause-unchanged c =
     let first = c.multiply.ensures ∙ ap₂ (λ z r. map (λ x. x *ℤ z) r) (to_z-of_z factor_fits) (front d old c.loop-column.row i c.loop-column.invariant.so_far c.loop-column-test.true)
     ∙ undivided factor (take i old) c.args.divisor.positive c.loop-column.invariant.divides in
     ap₂ (λ p q. p ++ q) first (back d old c.loop-column.row i c.loop-column.invariant.so_far c.loop-column-test.true) ∙ take-append-drop i old
-
-pub loop-column-preserved : goal.loop-column-preserved
-loop-column-preserved c =
-    let i = c.loop-column.column in
-    let d = unsigned_abs c.args.divisor.divisor in
-    let old = c.args.row.now in
-    let new = map (divided d) old in
-    let x_fits : SFits w128 (entry c.loop-column.row i) = search rules in
-    let y_fits : SFits w128 c.in-Some.quotient = search rules in
-    let x_is = next d old c.loop-column.row i c.loop-column.invariant.so_far c.loop-column-test.true x_fits in
-    let y_is = to_z-of_z y_fits ∙ c.in-Some.ensures.1 ∙ ap (divided d) x_is ∙ sym (entry-divided d old i) in
-    record {
-      so_far = ap (λ row. set row i (to_z w128 (of_z w128 c.in-Some.quotient))) c.loop-column.invariant.so_far ∙ set-written new old i _ (length-map old (divided d)) c.loop-column-test.true y_is;
-      divides = Divides-more d old i c.loop-column-test.true c.loop-column.invariant.divides (subst (λ z. d ∣ unsigned_abs z) x_is c.in-Some.ensures.0);
-    }
 
 pub returns-clause-divides : goal.returns-clause-divides
 returns-clause-divides c =

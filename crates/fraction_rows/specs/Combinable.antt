@@ -1,0 +1,17 @@
+-- When one row can be combined with another in a column.
+use Rattle.std.specs.Prelude.{◌≡◌, ℕ, ◌<◌, List, length, ℤ, pos, ◌<ℤ◌}
+use Rattle.std.specs.List.{All}
+use Rattle.row_definitions.specs.Rows.{entry}
+use Rattle.row_definitions.specs.Combination.{FitsEntry}
+
+pub record Combinable (target pivot : List ℤ) (at : ℕ) : Type 0 where
+  -- both rows have one length
+  pub lengths : length target ≡ length pivot
+  -- the column is one of theirs
+  pub within : at < length target
+  -- the pivot's entry there is above 0
+  pub positive : pos 0 <ℤ entry pivot at
+  -- no entry of the target is the least number of 128 bits
+  pub target_fits : All FitsEntry target
+  -- nor is one of the pivot
+  pub pivot_fits : All FitsEntry pivot
