@@ -1,5 +1,5 @@
 -- The course of a run, from what was read and what was written.
-use Rattle.std.proofs.Common.{◌≡◌, ℕ, ◌<◌, ◌≤◌, Bool, true, false, cond, ◌&&◌, List, Vec, Global, [], ◌∷◌, length, map, Option, Some, None, Result, Ok, Err, refl, sym, ap, subst, arith, inl, inr, MatchResult, IfOk}
+use Rattle.std.proofs.Common.{◌≡◌, ℕ, ◌<◌, ◌≤◌, Bool, true, false, cond, ◌&&◌, List, Vec, Global, [], ◌∷◌, length, take, map, Option, Some, None, Result, Ok, Err, refl, sym, ap, subst, arith, inl, inr, MatchResult, IfOk}
 use Rattle.std.specs.Io.KnownBytes.{Keeps}
 use Rattle.std.proofs.KnownBytes.{Keeps-refl}
 use Rattle.scan_types.specs.declared.memory.WantOfMemory.{WantOfMemory}
@@ -16,7 +16,7 @@ use Rattle.std.proofs.lemmas.Bool.Decides.{nat_tests}
 use Rattle.scan_desk.specs.Words.{named_feeds, is_feed_name}
 use Rattle.scan_desk.specs.Readings.{AreReadSo, AreRead}
 use Rattle.scan_desk.specs.Desk.{OpenerSeen, SinkSeen, sink_seen, Due, IsDueAfter, IsWritten, IsCutRun, IsCourse, IsCourseOfRun}
-use Rattle.scan_desk.specs.Told.{told_bytes, HasSources}
+use Rattle.scan_desk.specs.Told.{told_bytes, HasSources, LacksSource}
 use Rattle.scan_desk.specs.Texts.{cannot_be_opened}
 use Rattle.desk_io.specs.Faults.{Rose}
 use Rattle.scan_desk.proofs.ReadAll.{parts_are}
@@ -80,13 +80,13 @@ written_kept (Err _) status answer written faults before after h =
 
 -- the course where a feed was not opened
 pub course_unopened : {S : Type 0} (left : S → Option (List ℕ)) (faults : S → ℕ) (opener : OpenerSeen) (words names : List (List ℕ)) (feed : ℕ) (ends : List (FeedEnd S)) (answer : ℕ) (text : Result (Vec ℕ Global) WantOfMemory)
-    (sink : SinkSeen) → named_feeds words ≡ Some names → (feed < length names) × Rose opener.faults_before opener.faults_after → ends ≡ [] → IfOk text (λ t. t.items ≡ cannot_be_opened feed)
+    (sink : SinkSeen) → named_feeds words ≡ Some names → (feed < length names) × Rose opener.faults_before opener.faults_after → HasSources opener.told (take feed names) → (opener.opens_told → LacksSource opener.told names feed) → ends ≡ [] → IfOk text (λ t. t.items ≡ cannot_be_opened feed)
     → MatchResult text (λ t. IsWritten (record { status = 3; text = t.items }) answer sink) (λ _. (answer ≡ 7) × Keeps sink.written_before sink.written_after)
     → IsCourse left faults opener words ends answer sink
-course_unopened left faults opener words names feed ends answer (Ok text) sink named fault none line written =
+course_unopened left faults opener words names feed ends answer (Ok text) sink named fault earlier lacks none line written =
     let mk : List ℕ → Due = λ t. record { status = 3; text = t } in
-    inl (mk text.items, inr (names, named, inl (record { feed = feed; is_named = fault.0; fault = fault.1; none_begun = none; due_is = ap mk line })), written)
-course_unopened left faults opener words names feed ends answer (Err _) sink named fault none line written =
+    inl (mk text.items, inr (names, named, inl (record { feed = feed; is_named = fault.0; fault = fault.1; earlier = earlier; lacks = lacks; none_begun = none; due_is = ap mk line })), written)
+course_unopened left faults opener words names feed ends answer (Err _) sink named fault earlier lacks none line written =
     inr (written.0, written.1, names, named, inl none, none_begun left faults (told_bytes opener.told names) (length names) ends none)
 
 -- the course where the feeds were opened

@@ -4,7 +4,7 @@ ghost use Rattle.std.specs.Prelude.{◌≡◌, ◌<◌, ◌≤◌, map, length, 
 ghost use Rattle.std.specs.VecDeque.{deque_len};
 ghost use Rattle.desk_io.specs.Faults.{Rose};
 ghost use Rattle.scan_desk.specs.Told.{told_bytes, HasSources};
-ghost use Rattle.scan_desk.specs.Opening.{AreOpened, IsCause};
+ghost use Rattle.scan_desk.specs.Opening.{AreOpened, IsCause, HasSourcesBefore, LacksItsSource};
 
 use desk_io::{OpenFault, Opener};
 use std::alloc::Global;
@@ -29,6 +29,8 @@ pub(crate) fn open_all<O: Opener>(
         AreOpened O.S.left O.S.faults (told_bytes (O.told opener.old) (map string_bytes names.now)) 0 sources.items) }
     ensures enough { OnOk result (HasSources (O.told opener.old) (map string_bytes names.now)) }
     ensures failed { IfErr result (IsCause (length names.now) (O.faults opener.old) (O.faults opener.new)) }
+    ensures earlier { IfErr result (HasSourcesBefore (O.told opener.old) (map string_bytes names.now)) }
+    ensures lacking { O.opens_told opener.old → IfErr result (LacksItsSource (O.told opener.old) (map string_bytes names.now)) }
 {
     let Ok(mut sources) = VecDeque::with_capacity(alloc, names.len()) else {
         return Err(NotOpened::WantOfMemory);

@@ -69,7 +69,7 @@ fn run<O: Opener, K: Sink>(
     opener: &mut O,
     sink: &mut K,
 ) -> DeskEnd<O::S>
-    ensures { IsCourse O.S.left O.S.faults (opener_seen O.told O.faults opener.old opener.new)
+    ensures { IsCourse O.S.left O.S.faults (opener_seen O.told O.opens_told O.faults opener.old opener.new)
         (map string_bytes words.now) result.feeds.items result.status (sink_seen K.written K.faults sink.old sink.new) }
 {
     let Some(names) = named_feeds(words) else {
@@ -104,7 +104,7 @@ pub fn desk<O: Opener, K: Sink>(
     sink: &mut K,
 ) -> DeskEnd<O::S>
     // What a run does, whole: what is due for these words and feeds, and how it was written.
-    ensures course { IsCourse O.S.left O.S.faults (opener_seen O.told O.faults opener.old opener.new)
+    ensures course { IsCourse O.S.left O.S.faults (opener_seen O.told O.opens_told O.faults opener.old opener.new)
         (map string_bytes words.now) result.feeds.items result.status (sink_seen K.written K.faults sink.old sink.new) }
 
     // Status 0 comes only where each named feed was read to its end; the sink then got the report of what the sources gave.
@@ -112,17 +112,21 @@ pub fn desk<O: Opener, K: Sink>(
         IsReported O.S.left O.S.faults (O.told opener.old) (map string_bytes words.now) result.feeds.items
         (K.written sink.old) (K.written sink.new) }
 
-    // The converse: plain feeds of distinct books have status 0, unless an opening, a read or a write fails or memory is wanting.
+    // The converse: plain feeds of distinct books have status 0, unless an opening, a read or a write fails or memory is wanting. An
+    // opener that promised to fail only under a name that has no source left opens all of them.
     ensures complete { NamePlainFeeds (O.told opener.old) (map string_bytes words.now) →
-        HasNoFault O.S.faults (opener_seen O.told O.faults opener.old opener.new) result.feeds.items
+        HasNoFault O.S.faults (opener_seen O.told O.opens_told O.faults opener.old opener.new) result.feeds.items
         (sink_seen K.written K.faults sink.old sink.new) → (result.status ≡ 0) ⊎ (result.status ≡ 7) }
 
     // Each other status but 7 has its cause. Words that are no command, a named feed that the opener has no source for, a failed
     // read and a line that is not built also have their status, unless a write fails or memory is wanting; words that are no
-    // command take none. All feeds are opened before the first is read: where one of them has no source, none is begun.
+    // command take none. All feeds are opened before the first is read: where one of them has no source, none is begun. With the
+    // opener's promise to fail only under a name that has no source left, a feed without a source is the one cause of status 3.
     ensures no_command { result.status ≡ 2 → named_feeds (map string_bytes words.now) ≡ None }
     ensures no_command_due { named_feeds (map string_bytes words.now) ≡ None → (result.status ≡ 2) ⊎ (result.status ≡ 5) }
     ensures not_opened { result.status ≡ 3 → Rose (O.faults opener.old) (O.faults opener.new) }
+    ensures not_opened_missing { O.opens_told opener.old → result.status ≡ 3 →
+        NameMissingFeed (O.told opener.old) (map string_bytes words.now) }
     ensures not_opened_due { NameMissingFeed (O.told opener.old) (map string_bytes words.now) → IsOrYields 3 result.status }
     ensures none_begun { NameMissingFeed (O.told opener.old) (map string_bytes words.now) → result.feeds.items ≡ [] }
     ensures not_read { result.status ≡ 4 → StopsAtLast FeedStop.ReadFault result.feeds.items }

@@ -38,8 +38,10 @@ returns-in-Err-Feed g c =
     let before = c.args.sink.now in
     let after = c.write_due.new.sink in
     let cause = rw c.in-Err-Feed.field-0-is at c.in-Err-Feed.ensures.failed in
-    course_unopened S.left S.faults (opener_seen g.O.Opener.told g.O.Opener.faults c.args.opener.now c.open_all.new.opener) words names c.in-Err-Feed.feed c.new-in-Err-Feed.result.items c.write_due.result c.cannot_be_opened.result
-    (sink_seen K.written K.faults before after) (sym c.in-Some.ensures) (omega (arith, cause, length-map c.in-Some.names.now (string_bytes {Z = Global})), cause.1) c.new-in-Err-Feed.ensures.items c.cannot_be_opened.ensures
+    let earlier = rw c.in-Err-Feed.field-0-is at c.in-Err-Feed.ensures.earlier in
+    course_unopened S.left S.faults (opener_seen g.O.Opener.told g.O.Opener.opens_told g.O.Opener.faults c.args.opener.now c.open_all.new.opener) words names c.in-Err-Feed.feed c.new-in-Err-Feed.result.items c.write_due.result c.cannot_be_opened.result
+    (sink_seen K.written K.faults before after) (sym c.in-Some.ensures) (omega (arith, cause, length-map c.in-Some.names.now (string_bytes {Z = Global})), cause.1) earlier
+    (λ promise. rw c.in-Err-Feed.field-0-is at c.in-Err-Feed.ensures.lacking promise) c.new-in-Err-Feed.ensures.items c.cannot_be_opened.ensures
     (written_kept c.cannot_be_opened.result 3 c.write_due.result K.written K.faults before after c.write_due.ensures)
 
 pub returns-in-Ok : goal.returns-in-Ok
@@ -52,5 +54,5 @@ returns-in-Ok g c =
     let sink = sink_seen K.written K.faults c.args.sink.now c.read_and_write.new.sink in
     let count : deque_len c.in-Ok.sources ≡ length names = omega (arith, c.in-Ok.ensures.each, length-map c.in-Some.names.now (string_bytes {Z = Global})) in
     let P : ℕ → Type 0 = λ n. IsCourseOfRun S.left S.faults (told_bytes told names) n c.read_and_write.result.feeds.items c.read_and_write.result.status sink in
-    course_of_names S.left S.faults (opener_seen g.O.Opener.told g.O.Opener.faults c.args.opener.now c.open_all.new.opener) words names c.read_and_write.result.feeds.items c.read_and_write.result.status
+    course_of_names S.left S.faults (opener_seen g.O.Opener.told g.O.Opener.opens_told g.O.Opener.faults c.args.opener.now c.open_all.new.opener) words names c.read_and_write.result.feeds.items c.read_and_write.result.status
     sink (sym c.in-Some.ensures) c.in-Ok.ensures.enough (subst P count (c.read_and_write.ensures (told_bytes told names) c.in-Ok.ensures.opened))
