@@ -78,6 +78,17 @@ written_kept (Ok text) status answer written faults before after h = h
 written_kept (Err _) status answer written faults before after h =
     (h.0, let P : Option (List ℕ) → Type 0 = λ o. Keeps (written before) o in subst P (sym (ap written h.1)) (Keeps-refl (written before)))
 
+-- a status other than 5 and 7 is the one that was due
+pub status_written : (due : Due) (answer : ℕ) (sink : SinkSeen) → IsWritten due answer sink → answer ≡ 4 → due.status ≡ 4
+status_written due answer sink (inl written) e = omega (arith, written.0, e)
+status_written due answer sink (inr broken) e = absurd (omega (arith, broken.0, e))
+
+pub status_kept : {K : Type 0} (text : Result (Vec ℕ Global) WantOfMemory) (status answer : ℕ) (written : K → Option (List ℕ)) (faults : K → ℕ) (before after : K)
+    → MatchResult text (λ t. IsWritten (record { status = status; text = t.items }) answer (sink_seen written faults before after)) (λ _. (answer ≡ 7) × (after ≡ before))
+    → answer ≡ 4 → status ≡ 4
+status_kept (Ok text) status answer written faults before after h e = status_written (record { status = status; text = text.items }) answer (sink_seen written faults before after) h e
+status_kept (Err _) status answer written faults before after h e = absurd (omega (arith, h.0, e))
+
 -- the course where a feed was not opened
 pub course_unopened : {S : Type 0} (left : S → Option (List ℕ)) (faults : S → ℕ) (opener : OpenerSeen) (words names : List (List ℕ)) (feed : ℕ) (ends : List (FeedEnd S)) (answer : ℕ) (text : Result (Vec ℕ Global) WantOfMemory)
     (sink : SinkSeen) → named_feeds words ≡ Some names → (feed < length names) × Rose opener.faults_before opener.faults_after → HasSources opener.told (take feed names) → (opener.opens_told → LacksSource opener.told names feed) → ends ≡ [] → IfOk text (λ t. t.items ≡ cannot_be_opened feed)

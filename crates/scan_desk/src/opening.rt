@@ -1,6 +1,6 @@
 //! Opening the named feeds.
 
-ghost use Rattle.std.specs.Prelude.{◌≡◌, ◌<◌, ◌≤◌, map, length, IfOk, OnOk, IfErr, string_bytes};
+ghost use Rattle.std.specs.Prelude.{◌≡◌, ◌<◌, ◌≤◌, map, length, All, IfOk, OnOk, IfErr, string_bytes};
 ghost use Rattle.std.specs.VecDeque.{deque_len};
 ghost use Rattle.desk_io.specs.Faults.{Rose};
 ghost use Rattle.scan_desk.specs.Told.{told_bytes, HasSources};
@@ -28,6 +28,7 @@ pub(crate) fn open_all<O: Opener>(
     ensures opened { IfOk result (λ sources.
         AreOpened O.S.left O.S.faults (told_bytes (O.told opener.old) (map string_bytes names.now)) 0 sources.items) }
     ensures enough { OnOk result (HasSources (O.told opener.old) (map string_bytes names.now)) }
+    ensures promised { O.promises opener.old → IfOk result (λ sources. All O.S.never_fails sources.items) }
     ensures failed { IfErr result (IsCause (length names.now) (O.faults opener.old) (O.faults opener.new)) }
     ensures earlier { IfErr result (HasSourcesBefore (O.told opener.old) (map string_bytes names.now)) }
     ensures lacking { O.opens_told opener.old → IfErr result (LacksItsSource (O.told opener.old) (map string_bytes names.now)) }

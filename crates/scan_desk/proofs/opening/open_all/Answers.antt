@@ -1,6 +1,7 @@
 use Rattle.std.proofs.Common.{◌≡◌, ◌++◌, ◌∷◌, refl, true, is_ok, MatchOption, Some, ◌<◌, ◌+◌, map, length, string_bytes, arith, get_or, [], Global, sym, ◌∙◌, ap, subst, ℕ, ◌≤◌, List}
 use Rattle.std.proofs.lemmas.List.{get_or-map, length-map, take_all}
 use Rattle.std.specs.Bool.{⊤}
+use Rattle.std.proofs.lemmas.List.Elements.{All-push}
 use Rattle.scan_desk.specs.Told.{told_bytes, HasSources}
 use Rattle.desk_io.proofs.Openings.{opened_under_none}
 use Rattle.scan_desk.proofs.Opened.{opened_more, tells, enough_none, enough_more, AreOpened_push, stays_untold, lacks}
@@ -11,6 +12,8 @@ loop-number-init g c = record {
   count = omega (arith, c.in-Ok.ensures.len);
   faults = omega arith;
   promise = λ promise. promise;
+  promises_kept = λ promise. promise;
+  never = λ promise. rw c.in-Ok.ensures.items (λ k d lt. absurd (omega (arith, lt)));
   untold = λ name untold. untold;
   told = opened_under_none (g.O.Opener.told c.args.opener.now);
   enough = enough_none (g.O.Opener.told c.args.opener.now);
@@ -54,6 +57,8 @@ loop-number-preserved g c =
       count = rw ok at c.push_back.ensures.len ∙ ap (λ k. k + 1) c.loop-number.invariant.count;
       faults = omega (arith, c.open_feed.ensures.faults_kept, c.loop-number.invariant.faults);
       promise = λ promise. c.open_feed.ensures.opens_told_kept (c.loop-number.invariant.promise promise);
+      promises_kept = λ promise. c.open_feed.ensures.promise_kept (c.loop-number.invariant.promises_kept promise);
+      never = λ promise. rw items (All-push g.O.S.Source.never_fails c.loop-number.sources.items c.in-Ok-open_feed.source (c.loop-number.invariant.never promise) (c.in-Ok-open_feed.ensures.promised (c.loop-number.invariant.promises_kept promise)));
       untold = stays_untold before now after c.as_str.result.now left c.loop-number.invariant.untold c.in-Ok-open_feed.ensures.opened c.in-Ok-open_feed.ensures.others;
       told = opened_more before now after names n c.as_str.result.now left lt is c.loop-number.invariant.told c.in-Ok-open_feed.ensures.opened c.in-Ok-open_feed.ensures.others;
       enough = enough_more before now after names n c.as_str.result.now left lt is c.loop-number.invariant.told c.loop-number.invariant.enough c.in-Ok-open_feed.ensures.opened;
@@ -76,3 +81,6 @@ returns-clause-enough g c =
     let all : length names ≤ c.loop-number.number = omega (arith, length-map c.args.names.now (string_bytes {Z = Global}), c.loop-number-test.false) in
     let P : List (List ℕ) → Type 0 = λ xs. HasSources (g.O.Opener.told c.args.opener.now) xs in
     subst P (take_all c.loop-number.number names all) c.loop-number.invariant.enough
+
+pub returns-clause-promised : goal.returns-clause-promised
+returns-clause-promised g c = λ promise. c.loop-number.invariant.never promise

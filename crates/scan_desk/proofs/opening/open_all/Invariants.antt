@@ -1,4 +1,4 @@
-use Rattle.std.proofs.Common.{◌≡◌, ◌≤◌, map, take, string_bytes}
+use Rattle.std.proofs.Common.{◌≡◌, ◌≤◌, map, take, string_bytes, All}
 use Rattle.std.specs.VecDeque.{deque_len}
 use Rattle.scan_desk.specs.Told.{told_bytes, HasSources}
 use Rattle.scan_desk.specs.Opening.{AreOpened}
@@ -15,6 +15,8 @@ invariant-loop-number g l =
       count : deque_len l.sources ≡ l.number;
       faults : g.O.Opener.faults l.fn.opener ≤ g.O.Opener.faults l.opener;
       promise : g.O.Opener.opens_told l.fn.opener → g.O.Opener.opens_told l.opener;
+      promises_kept : g.O.Opener.promises l.fn.opener → g.O.Opener.promises l.opener;
+      never : g.O.Opener.promises l.fn.opener → All g.O.S.Source.never_fails l.sources.items;
       untold : StaysUntold told_first (g.O.Opener.told l.opener);
       told : OpenedUnder (take l.number names) told_first (g.O.Opener.told l.opener);
       enough : HasSources told_first (take l.number names);
