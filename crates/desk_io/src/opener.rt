@@ -14,7 +14,7 @@ pub trait Opener {
     ghost faults: { Self → ℕ };
 
     /// The sources that are still to be opened under a name, in order, each as its bytes. `None` claims
-    /// nothing.
+    /// nothing, and stays.
     ghost told: { Self → Told };
 
     /// The promise that no read fails of a source that is opened from here on.

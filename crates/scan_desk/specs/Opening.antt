@@ -26,7 +26,7 @@ abbrev pub HasSourcesBefore : Told → List (List ℕ) → NotOpened → Type 0
 HasSourcesBefore told names (Feed number) = HasSources told (take number names)
 HasSourcesBefore told names WantOfMemory = Unit {0}
 
--- and has none for that one
+-- the opener has no source for the feed that was not opened
 abbrev pub LacksItsSource : Told → List (List ℕ) → NotOpened → Type 0
 LacksItsSource told names (Feed number) = LacksSource told names number
 LacksItsSource told names WantOfMemory = Unit {0}
