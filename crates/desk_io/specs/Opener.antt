@@ -1,5 +1,5 @@
 -- The sources that an opener has still to open, as the bytes of each, in order, by name.
-use Rattle.std.specs.Prelude.{◌≡◌, ◌≢◌, List, [], ◌∷◌, ℕ, Option, Some, None, ⊤, IfSome, drop, count_by}
+use Rattle.std.specs.Prelude.{◌≡◌, ◌≢◌, List, [], ◌∷◌, ℕ, Option, Some, None, IfSome, drop, count_by}
 use Rattle.std.specs.List.{slice_get}
 use Rattle.std.specs.Option.{option_and_then}
 use Rattle.std.specs.Str.{bytes_eq}
@@ -8,9 +8,10 @@ use Rattle.std.specs.Str.{bytes_eq}
 abbrev pub Told : Type 0
 Told = List ℕ → Option (List (List ℕ))
 
--- the first source under a name is opened and has these bytes left, and the others are still to be opened
+-- the first source under a name is opened and has these bytes left, and the others are still to be opened; of a name of which
+-- nothing is told, nothing is told then either
 abbrev pub OpensFirst : Option (List (List ℕ)) → Option (List (List ℕ)) → Option (List ℕ) → Type 0
-OpensFirst None after left = ⊤
+OpensFirst None after left = after ≡ None
 OpensFirst (Some []) after left = ⊥
 OpensFirst (Some (first ∷ others)) after left = (after ≡ Some others) × (left ≡ Some first)
 

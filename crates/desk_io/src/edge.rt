@@ -43,6 +43,8 @@ impl<R: Files> Opener for FileOpener<R> {
 
     ghost promises = { λ _. ⊥ };
 
+    ghost opens_told = { λ _. ⊥ };
+
     fn open_feed(&mut self, name: &str) -> Result<FileSource<R::File>, OpenFault> {
         match fs::open(&self.files, name) {
             Ok(file) => Ok(FileSource::new(file)),

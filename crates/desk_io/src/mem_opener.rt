@@ -62,6 +62,8 @@ impl Opener for MemOpener {
 
     ghost promises = { λ o. AllNeverFail o.files };
 
+    ghost opens_told = { λ o. o.failing ≡ [] };
+
     fn open_feed(&mut self, name: &str) -> Result<MemSource, OpenFault>
         // Exactly the openings with these numbers fail, and those of a name that has no file left.
         // None wants memory.

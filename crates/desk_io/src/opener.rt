@@ -1,5 +1,5 @@
 //! What opens feeds.
-ghost use Rattle.std.specs.Prelude.{◌≡◌, ◌<◌, ◌≤◌, ◌^◌, ℕ, IfOk, IsErrOf, OnOk, OnErr};
+ghost use Rattle.std.specs.Prelude.{◌≡◌, ◌<◌, ◌≤◌, ◌^◌, ℕ, [], Some, IfOk, IsErrOf, OnOk, OnErr};
 ghost use Rattle.desk_io.specs.Faults.{Rose};
 ghost use Rattle.desk_io.specs.Opener.{Told, OpensFirst, SameUnderOthers, SameUnderAll};
 
@@ -14,11 +14,14 @@ pub trait Opener {
     ghost faults: { Self → ℕ };
 
     /// The sources that are still to be opened under a name, in order, each as its bytes. `None` claims
-    /// nothing.
+    /// nothing, and stays.
     ghost told: { Self → Told };
 
     /// The promise that no read fails of a source that is opened from here on.
     ghost promises: { Self → Type 0 };
+
+    /// The promise that from here on an opening fails only under a name that has no source left.
+    ghost opens_told: { Self → Type 0 };
 
     /// Opens the next source under this name. It answers `Failed` where the outside refuses that, or has
     /// no source of this name left, and `WantOfMemory` where the memory for it is not to be had.
@@ -33,5 +36,8 @@ pub trait Opener {
         ensures faults_kept { faults self.old ≤ faults self.new }
         ensures faults_fit { faults self.new < 2 ^ 64 }
         ensures promised { promises self.old → IfOk result (λ source. Self.S.never_fails source) }
-        ensures promise_kept { promises self.old → promises self.new };
+        ensures promise_kept { promises self.old → promises self.new }
+        ensures none_left { opens_told self.old →
+            IsErrOf result OpenFault.Failed → told self.old name.now ≡ Some [] }
+        ensures opens_told_kept { opens_told self.old → opens_told self.new };
 }

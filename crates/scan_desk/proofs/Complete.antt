@@ -1,5 +1,5 @@
 -- Plain feeds are read to their ends, unless something fails.
-use Rattle.std.proofs.Common.{◌≡◌, ◌≢◌, ℕ, suc, ◌+◌, ◌<◌, ◌≤◌, Bool, true, false, ◌||◌, cond, eqb, ◌&&◌, List, [], ◌∷◌, ◌++◌, length, take, map, Option, Some, None, refl, sym, ap, ◌∙◌, subst, arith, inl, inr, ◌⊎◌, get_or, unwrap_or, append_assoc, append-nil}
+use Rattle.std.proofs.Common.{◌≡◌, ◌≢◌, ℕ, zero, suc, ◌+◌, ◌<◌, ◌≤◌, Bool, true, false, ◌||◌, cond, eqb, ◌&&◌, List, [], ◌∷◌, ◌++◌, length, take, map, Option, Some, None, refl, sym, ap, ◌∙◌, subst, arith, inl, inr, ◌⊎◌, get_or, unwrap_or, append_assoc, append-nil}
 use Rattle.std.specs.Prelude.{AllPairs}
 use Rattle.std.specs.List.{AllByRecursion}
 use Rattle.std.specs.Str.{bytes_eq}
@@ -17,7 +17,11 @@ use Rattle.scan_desk.specs.declared.feed_end.FeedEnd.{FeedEnd}
 use Rattle.scan_desk.specs.declared.feed_end.FeedStop.{FeedStop}
 use Rattle.scan_desk.specs.declared.feed_end.FeedStop.TheVariants as stops
 use Rattle.scan_desk.specs.Words.{named_feeds}
-use Rattle.scan_desk.specs.Told.{told_bytes}
+use Rattle.scan_desk.specs.Told.{told_bytes, LacksSource}
+use Rattle.desk_io.specs.Opener.{Told, times}
+use Rattle.std.specs.Option.{option_and_then}
+use Rattle.std.specs.List.{slice_get}
+use Rattle.std.proofs.lemmas.Option.{slice_get_past}
 use Rattle.scan_desk.specs.Feeds.{is_among, StopsSo}
 use Rattle.scan_desk.specs.Readings.{AreReadSo, StopsAtLast}
 use Rattle.scan_desk.specs.PlainFeeds.{IsPlainText, HaveTexts, NamePlainFeeds}
@@ -155,13 +159,46 @@ due_at_end stops.ReadFault ends texts due e h = let f : stops.ReadFault ≡ stop
 due_at_end stops.NotBuilt ends texts due e h = let f : stops.NotBuilt ≡ stops.End = e (λ k. cc) in absurd (cc)
 due_at_end stops.NoMemory ends texts due e h = absurd h
 
+-- what is told of each of these feeds
+is_told : (told : ℕ → Option (List ℕ)) (number : ℕ) (texts : List (List ℕ)) (k : ℕ) → HaveTexts told number texts → k < length texts → told (number + k) ≢ None
+is_told told number [] k have lt none = absurd (omega (arith, lt))
+is_told told number (text ∷ texts) zero have lt none =
+    let P : ℕ → Type 0 = λ n. told n ≡ None in
+    let here : told number ≡ None = subst P (omega arith) none in
+    absurd (cc (here, have.0))
+is_told told number (text ∷ texts) (suc k) have lt none =
+    let P : ℕ → Type 0 = λ n. told n ≡ None in
+    is_told told (number + 1) texts k have.1 (omega (arith, lt)) (subst P (omega arith) none)
+
+-- nothing is told of a feed that has no source
+none_told : (told : Told) (names : List (List ℕ)) (k : ℕ) → LacksSource told names k → told_bytes told names k ≡ None
+none_told told names k lacks =
+    let name = get_or names k [] in
+    let P : Option (List (List ℕ)) → Type 0 = λ o. option_and_then (λ sources. slice_get sources (times name (take k names))) o ≡ None in
+    subst P (sym lacks.are_told) (slice_get_past lacks.sources (times name (take k names)) lacks.too_few)
+
+-- plain feeds have their sources
+not_lacking : (told : Told) (words names : List (List ℕ)) (k : ℕ) → NamePlainFeeds told words → named_feeds words ≡ Some names → k < length names → LacksSource told names k → ⊥
+not_lacking told words names k plain named lt lacks =
+    let both : Some plain.names ≡ Some names = sym plain.named ∙ named in
+    let same : plain.names ≡ names = cc in
+    let P : List (List ℕ) → Type 0 = λ ns. HaveTexts (told_bytes told ns) 0 plain.texts in
+    let Q : List (List ℕ) → Type 0 = λ ns. length plain.texts ≡ length ns in
+    let R : ℕ → Type 0 = λ n. told_bytes told names n ≡ None in
+    let first : k ≡ 0 + k = omega arith in
+    is_told (told_bytes told names) 0 plain.texts k (subst P same plain.are_told) (omega (arith, lt, subst Q same plain.each)) (subst R first (none_told told names k lacks))
+
 -- plain feeds are reported, unless something fails or memory is wanting
 pub complete : {S : Type 0} (left : S → Option (List ℕ)) (faults : S → ℕ) (opener : OpenerSeen) (words : List (List ℕ)) (ends : List (FeedEnd S)) (status : ℕ) (sink : SinkSeen)
     → IsCourse left faults opener words ends status sink → NamePlainFeeds opener.told words → HasNoFault faults opener ends sink → (status ≡ 0) ⊎ (status ≡ 7)
 complete left faults opener words ends status sink (inr cut) plain none = inr cut.0
 complete left faults opener words ends status sink (inl (due, is_due, inr broken)) plain none = absurd (none.written broken.2)
 complete left faults opener words ends status sink (inl (due, inl no_words, inl written)) plain none = absurd (some_or_none (named_feeds words) plain.names plain.named no_words.words_are)
-complete left faults opener words ends status sink (inl (due, inr (names, named, inl unopened), inl written)) plain none = absurd (none.opened unopened.fault)
+complete left faults opener words ends status sink (inl (due, inr (names, named, inl unopened), inl written)) plain none =
+    elim none.opened [
+      | inl not_risen ↦ absurd (not_risen unopened.fault)
+      | inr promise ↦ absurd (not_lacking opener.told words names unopened.feed plain named unopened.is_named (unopened.lacks promise))
+    ]
 complete {S} left faults opener words ends status sink (inl (due, inr (names, named, inr (enough, run)), inl written)) plain none =
     let both : Some plain.names ≡ Some names = sym plain.named ∙ named in
     let same : plain.names ≡ names = cc in

@@ -1,5 +1,5 @@
 -- The course of a run, from what was read and what was written.
-use Rattle.std.proofs.Common.{◌≡◌, ℕ, ◌<◌, ◌≤◌, Bool, true, false, cond, ◌&&◌, List, Vec, Global, [], ◌∷◌, length, map, Option, Some, None, Result, Ok, Err, refl, sym, ap, subst, arith, inl, inr, MatchResult, IfOk}
+use Rattle.std.proofs.Common.{◌≡◌, ℕ, ◌<◌, ◌≤◌, Bool, true, false, cond, ◌&&◌, List, Vec, Global, [], ◌∷◌, length, take, map, Option, Some, None, Result, Ok, Err, refl, sym, ap, subst, arith, inl, inr, MatchResult, IfOk}
 use Rattle.std.specs.Io.KnownBytes.{Keeps}
 use Rattle.std.proofs.KnownBytes.{Keeps-refl}
 use Rattle.scan_types.specs.declared.memory.WantOfMemory.{WantOfMemory}
@@ -16,7 +16,7 @@ use Rattle.std.proofs.lemmas.Bool.Decides.{nat_tests}
 use Rattle.scan_desk.specs.Words.{named_feeds, is_feed_name}
 use Rattle.scan_desk.specs.Readings.{AreReadSo, AreRead}
 use Rattle.scan_desk.specs.Desk.{OpenerSeen, SinkSeen, sink_seen, Due, IsDueAfter, IsWritten, IsCutRun, IsCourse, IsCourseOfRun}
-use Rattle.scan_desk.specs.Told.{told_bytes, HasSources}
+use Rattle.scan_desk.specs.Told.{told_bytes, HasSources, LacksSource}
 use Rattle.scan_desk.specs.Texts.{cannot_be_opened}
 use Rattle.desk_io.specs.Faults.{Rose}
 use Rattle.scan_desk.proofs.ReadAll.{parts_are}
@@ -78,15 +78,26 @@ written_kept (Ok text) status answer written faults before after h = h
 written_kept (Err _) status answer written faults before after h =
     (h.0, let P : Option (List ℕ) → Type 0 = λ o. Keeps (written before) o in subst P (sym (ap written h.1)) (Keeps-refl (written before)))
 
+-- a status other than 5 and 7 is the one that was due
+pub status_written : (due : Due) (answer : ℕ) (sink : SinkSeen) → IsWritten due answer sink → answer ≡ 4 → due.status ≡ 4
+status_written due answer sink (inl written) e = omega (arith, written.0, e)
+status_written due answer sink (inr broken) e = absurd (omega (arith, broken.0, e))
+
+pub status_kept : {K : Type 0} (text : Result (Vec ℕ Global) WantOfMemory) (status answer : ℕ) (written : K → Option (List ℕ)) (faults : K → ℕ) (before after : K)
+    → MatchResult text (λ t. IsWritten (record { status = status; text = t.items }) answer (sink_seen written faults before after)) (λ _. (answer ≡ 7) × (after ≡ before))
+    → answer ≡ 4 → status ≡ 4
+status_kept (Ok text) status answer written faults before after h e = status_written (record { status = status; text = text.items }) answer (sink_seen written faults before after) h e
+status_kept (Err _) status answer written faults before after h e = absurd (omega (arith, h.0, e))
+
 -- the course where a feed was not opened
 pub course_unopened : {S : Type 0} (left : S → Option (List ℕ)) (faults : S → ℕ) (opener : OpenerSeen) (words names : List (List ℕ)) (feed : ℕ) (ends : List (FeedEnd S)) (answer : ℕ) (text : Result (Vec ℕ Global) WantOfMemory)
-    (sink : SinkSeen) → named_feeds words ≡ Some names → (feed < length names) × Rose opener.faults_before opener.faults_after → ends ≡ [] → IfOk text (λ t. t.items ≡ cannot_be_opened feed)
+    (sink : SinkSeen) → named_feeds words ≡ Some names → (feed < length names) × Rose opener.faults_before opener.faults_after → HasSources opener.told (take feed names) → (opener.opens_told → LacksSource opener.told names feed) → ends ≡ [] → IfOk text (λ t. t.items ≡ cannot_be_opened feed)
     → MatchResult text (λ t. IsWritten (record { status = 3; text = t.items }) answer sink) (λ _. (answer ≡ 7) × Keeps sink.written_before sink.written_after)
     → IsCourse left faults opener words ends answer sink
-course_unopened left faults opener words names feed ends answer (Ok text) sink named fault none line written =
+course_unopened left faults opener words names feed ends answer (Ok text) sink named fault earlier lacks none line written =
     let mk : List ℕ → Due = λ t. record { status = 3; text = t } in
-    inl (mk text.items, inr (names, named, inl (record { feed = feed; is_named = fault.0; fault = fault.1; none_begun = none; due_is = ap mk line })), written)
-course_unopened left faults opener words names feed ends answer (Err _) sink named fault none line written =
+    inl (mk text.items, inr (names, named, inl (record { feed = feed; is_named = fault.0; fault = fault.1; earlier = earlier; lacks = lacks; none_begun = none; due_is = ap mk line })), written)
+course_unopened left faults opener words names feed ends answer (Err _) sink named fault earlier lacks none line written =
     inr (written.0, written.1, names, named, inl none, none_begun left faults (told_bytes opener.told names) (length names) ends none)
 
 -- the course where the feeds were opened

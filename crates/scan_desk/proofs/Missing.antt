@@ -1,10 +1,12 @@
 -- A run whose words name a feed that the opener has no source for.
-use Rattle.std.proofs.Common.{◌≡◌, ℕ, ◌<◌, ◌≤◌, List, [], Option, Some, None, IfSome, sym, ◌∙◌, ap, subst, inl, inr, length, arith}
+use Rattle.std.proofs.Common.{◌≡◌, ℕ, ◌<◌, ◌≤◌, List, get_or, [], Option, Some, None, IfSome, sym, ◌∙◌, ap, subst, inl, inr, length, arith}
 use Rattle.desk_io.specs.Opener.{Told, times}
 use Rattle.scan_desk.specs.declared.feed_end.FeedEnd.{FeedEnd}
 use Rattle.scan_desk.specs.Words.{named_feeds}
-use Rattle.scan_desk.specs.Told.{HasSources, NameMissingFeed}
+use Rattle.scan_desk.specs.Told.{HasSources, LacksSource, NameMissingFeed}
 use Rattle.scan_desk.specs.Desk.{OpenerSeen, SinkSeen, IsCourse, IsOrYields}
+use Rattle.scan_desk.proofs.Opened.{times_before}
+use Rattle.scan_desk.proofs.Statuses.{read_status}
 
 too_few : (told : Option (List (List ℕ))) (sources : List (List ℕ)) (count : ℕ) → told ≡ Some sources → IfSome told (λ xs. count ≤ length xs) → length sources < count → ⊥
 too_few told sources count e enough few =
@@ -39,3 +41,24 @@ none_begun left faults opener words ends status sink (inr (seven, kept, names, n
 none_begun left faults opener words ends status sink (inl (due, inl none, written)) missing = none.none_begun
 none_begun left faults opener words ends status sink (inl (due, inr (names, named, inl unopened), written)) missing = unopened.none_begun
 none_begun left faults opener words ends status sink (inl (due, inr (names, named, inr (enough, run)), written)) missing = absurd (lacks opener.told words names missing named enough)
+
+-- words that name a feed which has no source
+missing_of : (told : Told) (words names : List (List ℕ)) (k : ℕ) → named_feeds words ≡ Some names → k < length names → LacksSource told names k → NameMissingFeed told words
+missing_of told words names k named lt lacks = record {
+  names = names;
+  named = named;
+  name = get_or names k [];
+  sources = lacks.sources;
+  are_told = lacks.are_told;
+  too_few = omega (arith, lacks.too_few, times_before names k lt);
+}
+
+pub not_opened_missing : {S : Type 0} (left : S → Option (List ℕ)) (faults : S → ℕ) (opener : OpenerSeen) (words : List (List ℕ)) (ends : List (FeedEnd S)) (status : ℕ) (sink : SinkSeen)
+    → IsCourse left faults opener words ends status sink → opener.opens_told → status ≡ 3 → NameMissingFeed opener.told words
+not_opened_missing left faults opener words ends status sink (inr cut) promise e = absurd (omega (arith, cut.0))
+not_opened_missing left faults opener words ends status sink (inl (due, is_due, inr broken)) promise e = absurd (omega (arith, broken.0))
+not_opened_missing left faults opener words ends status sink (inl (due, inl none, inl written)) promise e = absurd (omega (arith, written.0, ap (λ d. d.status) none.due_is))
+not_opened_missing left faults opener words ends status sink (inl (due, inr (names, named, inl unopened), inl written)) promise e =
+    missing_of opener.told words names unopened.feed named unopened.is_named (unopened.lacks promise)
+not_opened_missing left faults opener words ends status sink (inl (due, inr (names, named, inr (enough, run)), inl written)) promise e =
+    absurd (read_status run.stop ends run.texts due run.due_is (omega (arith, written.0)))

@@ -3,12 +3,12 @@ use Rattle.std.proofs.Common.{◌≡◌, ◌≢◌, ℕ, zero, suc, ◌+◌, ◌
 use Rattle.std.specs.Bool.{⊤}
 use Rattle.std.specs.Option.{option_and_then}
 use Rattle.std.specs.Str.{bytes_eq}
-use Rattle.std.proofs.lemmas.List.{take_more}
+use Rattle.std.proofs.lemmas.List.{take_more, take-append-drop}
 use Rattle.std.proofs.lemmas.List.Sums.{sum_by-append}
 use Rattle.std.proofs.lemmas.Slice.Eq.{bytes_eq-Decides}
 use Rattle.desk_io.specs.Opener.{Told, OpensFirst, SameUnderOthers, OpenedUnder, times, next_under}
 use Rattle.desk_io.proofs.Openings.{opened_under_more, opens_next}
-use Rattle.scan_desk.specs.Told.{told_bytes, HasSources}
+use Rattle.scan_desk.specs.Told.{told_bytes, HasSources, LacksSource}
 use Rattle.scan_desk.specs.Opening.{IsOpened, AreOpened}
 
 -- the openings under one name more
@@ -96,3 +96,54 @@ enough_more first now after names n name left lt is opened enough opens =
     let P : List (List ℕ) → Type 0 = λ xs. HasSources first xs in
     let Q : List ℕ → Type 0 = λ x. P (take n names ++ x ∷ []) in
     subst P (sym (take_more names n [] lt)) (subst Q is (enough_under first now after (take n names) name left opened enough opens))
+
+-- of a name of which nothing was told at first nothing is told later
+abbrev pub StaysUntold : Told → Told → Type 0
+StaysUntold first now = (name : List ℕ) → first name ≡ None → now name ≡ None
+
+-- the openings under one name more
+pub stays_untold : (first now after : Told) (name : List ℕ) (left : Option (List ℕ)) → StaysUntold first now → OpensFirst (now name) (after name) left → SameUnderOthers name now after → StaysUntold first after
+stays_untold first now after name left stays opens others other untold = by (bytes_eq name other) refl
+  where
+    P : Option (List (List ℕ)) → Type 0
+    P o = OpensFirst o (after name) left
+
+    by : (same : Bool) → bytes_eq name other ≡ same → after other ≡ None
+    by true same =
+        let is : name ≡ other = (bytes_eq-Decides name other).0 same in
+        let here : after name ≡ None = subst P (ap now is ∙ stays other untold) opens in
+        ap after (sym is) ∙ here
+    by false differ = others other (λ same. absurd (cc (differ, (bytes_eq-Decides name other).1 (sym same)))) ∙ stays other untold
+
+none_left : (sources : List (List ℕ)) (k : ℕ) → drop k sources ≡ [] → length sources ≤ k
+none_left [] k e = omega arith
+none_left (source ∷ sources) zero e = absurd (cc e)
+none_left (source ∷ sources) (suc k) e = omega (arith, none_left sources k e)
+
+-- a name that has no source left now, of the list told at first
+lacks_at : (first now : Told) (names : List (List ℕ)) (k : ℕ) (name : List ℕ) (told : Option (List (List ℕ))) → first name ≡ told → name ≡ get_or names k [] → StaysUntold first now → OpenedUnder (take k names) first now → now name ≡ Some [] → LacksSource first names k
+lacks_at first now names k name None e is stays opened none_now = absurd (cc (sym none_now ∙ stays name e))
+lacks_at first now names k name (Some sources) e is stays opened none_now =
+    let P : Option (List (List ℕ)) → Type 0 = λ o. IfSome o (λ xs. now name ≡ Some (drop (times name (take k names)) xs)) in
+    let left : now name ≡ Some (drop (times name (take k names)) sources) = subst P e (opened name) in
+    let both : Some [] ≡ Some (drop (times name (take k names)) sources) = sym none_now ∙ left in
+    let Q : List ℕ → Type 0 = λ x. first x ≡ Some sources in
+    let R : List ℕ → Type 0 = λ x. length sources ≤ times x (take k names) in
+    record {
+      sources = sources;
+      are_told = subst Q is e;
+      too_few = subst R is (none_left sources (times name (take k names)) (cc both));
+    }
+
+pub lacks : (first now : Told) (names : List (List ℕ)) (k : ℕ) (name : List ℕ) → name ≡ get_or names k [] → StaysUntold first now → OpenedUnder (take k names) first now → now name ≡ Some [] → LacksSource first names k
+lacks first now names k name is stays opened none_now = lacks_at first now names k name (first name) refl is stays opened none_now
+
+-- a name stands once more among all names than among those before it
+pub times_before : (names : List (List ℕ)) (k : ℕ) → k < length names → times (get_or names k []) (take k names) < times (get_or names k []) names
+times_before names k lt =
+    let name = get_or names k [] in
+    let whole : times name names ≡ times name (take (k + 1) names) + times name (drop (k + 1) names) =
+    ap (λ xs. times name xs) (sym (take-append-drop (k + 1) names)) ∙ sum_by-append (λ n. cond (bytes_eq n name) 1 0) (take (k + 1) names) (drop (k + 1) names) in
+    let first : times name (take (k + 1) names) ≡ times name (take k names) + 1 =
+    ap (λ xs. times name xs) (take_more names k [] lt) ∙ times_more name name (take k names) ∙ ap (λ b. times name (take k names) + cond b 1 0) ((bytes_eq-Decides name name).1 refl) in
+    omega (arith, whole, first)

@@ -1,5 +1,5 @@
 -- The feeds that were read, one after another.
-use Rattle.std.proofs.Common.{◌≡◌, ℕ, suc, ◌+◌, ◌<◌, ◌≤◌, List, [], ◌∷◌, ◌++◌, length, map, Option, Some, None, refl, sym, ap, subst, arith, append_assoc, append-nil}
+use Rattle.std.proofs.Common.{◌≡◌, ℕ, suc, ◌+◌, ◌<◌, ◌≤◌, List, [], ◌∷◌, ◌++◌, length, map, All, Option, Some, None, refl, sym, ap, subst, arith, append_assoc, append-nil}
 use Rattle.std.proofs.lemmas.List.{length_push}
 use Rattle.std.specs.List.{AllZip, AllByRecursion}
 use Rattle.std.proofs.lemmas.List.Elements.{All-from_recursion}
@@ -144,3 +144,10 @@ as_many_read left faults told before number (end ∷ ends) (text ∷ texts) h = 
 pub untold : {S : Type 0} (left : S → Option (List ℕ)) (faults : S → ℕ) (told : ℕ → Option (List ℕ)) (number : ℕ) (sources : List S) → AreOpened left faults told number sources → AreOpened left faults (λ _. None) number sources
 untold left faults told number [] h = tt
 untold left faults told number (source ∷ sources) h = (record { fresh = h.0.fresh; tells = tt }, untold left faults told (number + 1) sources h.1)
+
+-- what holds of all of a list holds of its first, and of the others
+pub All_first : {X : Type 0} (P : X → Type 0) (x : X) (xs : List X) → All P (x ∷ xs) → P x
+All_first P x xs all = all 0 x (omega arith)
+
+pub All_later : {X : Type 0} (P : X → Type 0) (x : X) (xs : List X) → All P (x ∷ xs) → All P xs
+All_later P x xs all k d lt = all (suc k) d (omega (arith, lt))

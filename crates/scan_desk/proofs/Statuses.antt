@@ -25,6 +25,13 @@ status_of_stop stops.ReadFault ends texts due h = inr (inl (refl, ap (λ d. d.st
 status_of_stop stops.NotBuilt ends texts due h = inr (inr (refl, built_status (slice_get ends (length ends - 1)) (λ end. is_not_built (length ends - 1) (end.lines + 1)) due h))
 status_of_stop stops.NoMemory ends texts due h = absurd h
 
+-- status 3 is not due after feeds were read
+pub read_status : {S : Type 0} (stop : FeedStop) (ends : List (FeedEnd S)) (texts : List (List ℕ)) (due : Due) → IsDueAfter stop ends texts due → due.status ≢ 3
+read_status stop ends texts due h e = elim (status_of_stop stop ends texts due h) [
+  | inl whole ↦ omega (arith, whole.1)
+  | inr more ↦ elim more [ inl broken ↦ omega (arith, broken.1) | inr unbuilt ↦ omega (arith, unbuilt.1) ]
+]
+
 -- what a status says of what was due
 abbrev DueSays : {S : Type 0} → OpenerSeen → List (List ℕ) → List (FeedEnd S) → ℕ → Type 0
 DueSays opener words ends status =

@@ -1,6 +1,6 @@
 -- What a run of the desk does.
 use Rattle.std.specs.Prelude.{ℕ, ◌≡◌, ◌<◌, ◌≤◌, ◌+◌, ◌-◌, ◌⊎◌, List, [], length, map, Option, None}
-use Rattle.std.specs.Prelude.{Some, All, IsSomeAnd, slice_get}
+use Rattle.std.specs.Prelude.{Some, All, IsSomeAnd, slice_get, take}
 use Rattle.std.specs.Io.KnownBytes.{Appends, Keeps}
 use Rattle.desk_io.specs.Faults.{Rose}
 use Rattle.desk_io.specs.Opener.{Told}
@@ -14,7 +14,7 @@ use Rattle.scan_desk.specs.declared.feed_end.FeedStop.{FeedStop}
 use Rattle.scan_desk.specs.declared.feed_end.FeedStop.TheVariants as stops
 use Rattle.scan_desk.specs.Words.{named_feeds}
 use Rattle.scan_desk.specs.Texts.{no_command, cannot_be_opened, cannot_be_read, is_not_built}
-use Rattle.scan_desk.specs.Told.{told_bytes, HasSources}
+use Rattle.scan_desk.specs.Told.{told_bytes, HasSources, LacksSource}
 use Rattle.scan_desk.specs.Feeds.{part_of}
 use Rattle.scan_desk.specs.Readings.{AreReadSo, StopsAtLast}
 
@@ -31,14 +31,22 @@ pub record IsReport (feeds : List FeedPart) (report : List ℕ) : Type 0 where
   pub right : All (λ part. IsRightFirst part.sheet part.finding) matches
   pub text : report ≡ report_text default_pivots feeds matches
 
--- what a run sees of its opener: what it tells of its sources before, and its counts of failed openings before and after
-pub record OpenerSeen : Type 0 where
+-- what a run sees of its opener: what it tells of its sources before, its promise that an opening fails only under a name that has
+-- no source left, and its counts of failed openings before and after
+pub record OpenerSeen : Type 1 where
   pub told : Told
+  pub opens_told : Type 0
   pub faults_before : ℕ
   pub faults_after : ℕ
 
-abbrev pub opener_seen : {O : Type 0} → (O → Told) → (O → ℕ) → O → O → OpenerSeen
-opener_seen told faults before after = record { told = told before; faults_before = faults before; faults_after = faults after }
+abbrev pub opener_seen : {O : Type 0} → (O → Told) → (O → Type 0) → (O → ℕ) → O → O → OpenerSeen
+opener_seen told opens_told faults before after =
+    record {
+      told = told before;
+      opens_told = opens_told before;
+      faults_before = faults before;
+      faults_after = faults after;
+    }
 
 -- what a run sees of its sink: what it tells as written, and its counts of failed writes, before and after
 pub record SinkSeen : Type 0 where
@@ -67,12 +75,15 @@ pub record IsNoCommand {S : Type 0} (words : List (List ℕ)) (ends : List (Feed
   pub none_begun : ends ≡ []
   pub due_is : due ≡ record { status = 2; text = no_command }
 
--- a feed could not be opened, and the opener's count of faults rose
+-- a feed could not be opened, and the opener's count of faults rose; it has a source for each feed before, and, with its promise,
+-- none for this one
 pub record IsNotOpened {S : Type 0} (names : List (List ℕ)) (opener : OpenerSeen) (ends : List (FeedEnd S)) (due : Due)
     : Type 0 where
   pub feed : ℕ
   pub is_named : feed < length names
   pub fault : Rose opener.faults_before opener.faults_after
+  pub earlier : HasSources opener.told (take feed names)
+  pub lacks : opener.opens_told → LacksSource opener.told names feed
   pub none_begun : ends ≡ []
   pub due_is : due ≡ record { status = 3; text = cannot_be_opened feed }
 
@@ -157,9 +168,10 @@ IsOrYields due status = (status ≡ due) ⊎ ((status ≡ 5) ⊎ (status ≡ 7))
 abbrev pub HasNotRisen : ℕ → ℕ → Type 0
 HasNotRisen old new = Rose old new → ⊥
 
--- no opening failed, no read of the feeds that were begun and no write
+-- no opening failed, or the opener promised that one fails only under a name that has no source left; and no read of the feeds
+-- that were begun and no write failed
 pub record HasNoFault {S : Type 0} (faults : S → ℕ) (opener : OpenerSeen) (ends : List (FeedEnd S)) (sink : SinkSeen) :
     Type 0 where
-  pub opened : HasNotRisen opener.faults_before opener.faults_after
+  pub opened : HasNotRisen opener.faults_before opener.faults_after ⊎ opener.opens_told
   pub read : All (λ end. faults end.source ≡ 0) ends
   pub written : HasNotRisen sink.faults_before sink.faults_after

@@ -1,8 +1,10 @@
 -- The sources of the named feeds, as an opener gives them.
 use Rattle.desk_io.specs.Faults.{Rose}
+use Rattle.desk_io.specs.Opener.{Told}
+use Rattle.scan_desk.specs.Told.{HasSources, LacksSource}
 use Rattle.scan_desk.specs.declared.opening.NotOpened.{NotOpened}
 use Rattle.scan_desk.specs.declared.opening.NotOpened.TheVariants.{Feed, WantOfMemory}
-use Rattle.std.specs.Prelude.{ℕ, ◌≡◌, ◌<◌, ◌+◌, List, [], ◌∷◌, Option, Some, MatchOption, ⊤}
+use Rattle.std.specs.Prelude.{ℕ, ◌≡◌, ◌<◌, ◌+◌, List, [], ◌∷◌, take, Option, Some, MatchOption, ⊤}
 
 -- a source that was just opened: no read of it failed, and it has left what the opener told
 pub record IsOpened {S : Type 0} (left : S → Option (List ℕ)) (faults : S → ℕ) (told : Option (List ℕ)) (source : S) : Type 0 where
@@ -18,3 +20,13 @@ AreOpened left faults told number (source ∷ sources) = IsOpened left faults (t
 abbrev pub IsCause : ℕ → ℕ → ℕ → NotOpened → Type 0
 IsCause feeds faults_before faults_after (Feed number) = (number < feeds) × Rose faults_before faults_after
 IsCause feeds faults_before faults_after WantOfMemory = Unit {0}
+
+-- the opener has a source for each feed before the one that was not opened
+abbrev pub HasSourcesBefore : Told → List (List ℕ) → NotOpened → Type 0
+HasSourcesBefore told names (Feed number) = HasSources told (take number names)
+HasSourcesBefore told names WantOfMemory = Unit {0}
+
+-- the opener has no source for the feed that was not opened
+abbrev pub LacksItsSource : Told → List (List ℕ) → NotOpened → Type 0
+LacksItsSource told names (Feed number) = LacksSource told names number
+LacksItsSource told names WantOfMemory = Unit {0}

@@ -11,6 +11,12 @@ told_bytes told names k = next_under (take k names) (slice_index_or names k []) 
 abbrev pub HasSources : Told → List (List ℕ) → Type 0
 HasSources told names = (name : List ℕ) → IfSome (told name) (λ sources. times name names ≤ length sources)
 
+-- the opener tells that it has no source for name number k of these: under that name no more than it stands among the names before
+pub record LacksSource (told : Told) (names : List (List ℕ)) (k : ℕ) : Type 0 where
+  pub sources : List (List ℕ)
+  pub are_told : told (slice_index_or names k []) ≡ Some sources
+  pub too_few : length sources ≤ times (slice_index_or names k []) (take k names)
+
 -- the words name feeds, and the opener tells of one of them that it has no source for it: under its name are fewer sources than it
 -- stands among the feeds, so none at all where it stands there once
 pub record NameMissingFeed (told : Told) (words : List (List ℕ)) : Type 0 where

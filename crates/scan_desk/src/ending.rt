@@ -38,8 +38,9 @@ pub(crate) fn due<S: Drop>(
     requires some { 0 < length ends.now }
     requires few { length ends.now ≤ 8 }
     requires whole { stop ≡ FeedStop.End → (length feeds.now ≤ 8) × ArePlain feeds.now }
-    ensures { (texts : List (List ℕ)) → (stop ≡ FeedStop.End → map feed_part feeds.now ≡ map part_of texts) →
+    ensures due { (texts : List (List ℕ)) → (stop ≡ FeedStop.End → map feed_part feeds.now ≡ map part_of texts) →
         IfOk result.1 (λ text. IsDueAfter stop ends.now texts (record { status = result.0; text = text.items })) }
+    ensures fault { result.0 ≡ 4 → stop ≡ FeedStop.ReadFault }
 {
     let last = ends.len() - 1;
     match stop {

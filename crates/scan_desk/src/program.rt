@@ -1,6 +1,6 @@
 //! The top call: everything that the program does.
 
-ghost use Rattle.std.specs.Prelude.{ℕ, ◌≡◌, ◌<◌, ◌≤◌, ◌⊎◌, List, [], Option, map, string_bytes};
+ghost use Rattle.std.specs.Prelude.{ℕ, ◌≡◌, ◌≢◌, ◌<◌, ◌≤◌, ◌⊎◌, List, [], All, Option, map, string_bytes};
 ghost use Rattle.std.specs.VecDeque.{deque_len};
 ghost use Rattle.scan_desk.specs.Opening.{AreOpened};
 ghost use Rattle.std.specs.Io.KnownBytes.{Keeps};
@@ -41,9 +41,10 @@ fn read_and_write<S: Source + Drop, K: Sink>(
     requires some { 0 < deque_len sources }
     requires few { deque_len sources ≤ 8 }
     requires opened { AreOpened S.left S.faults (λ _. None) 0 sources.items }
-    ensures { (told : ℕ → Option (List ℕ)) → AreOpened S.left S.faults told 0 sources.items →
+    ensures course { (told : ℕ → Option (List ℕ)) → AreOpened S.left S.faults told 0 sources.items →
         IsCourseOfRun S.left S.faults told (deque_len sources) result.feeds.items result.status
         (sink_seen K.written K.faults sink.old sink.new) }
+    ensures promised { All S.never_fails sources.items → result.status ≢ 4 }
 {
     match read_all(alloc, sources) {
         Err(_) => DeskEnd {
@@ -62,15 +63,16 @@ fn read_and_write<S: Source + Drop, K: Sink>(
     }
 }
 
-/// What `desk` does, with its course alone.
+/// What `desk` does, with its course, and what a promise that no read fails adds to it.
 fn run<O: Opener, K: Sink>(
     alloc: Global,
     words: &[String],
     opener: &mut O,
     sink: &mut K,
 ) -> DeskEnd<O::S>
-    ensures { IsCourse O.S.left O.S.faults (opener_seen O.told O.faults opener.old opener.new)
+    ensures course { IsCourse O.S.left O.S.faults (opener_seen O.told O.opens_told O.faults opener.old opener.new)
         (map string_bytes words.now) result.feeds.items result.status (sink_seen K.written K.faults sink.old sink.new) }
+    ensures promised { O.promises opener.old → result.status ≢ 4 }
 {
     let Some(names) = named_feeds(words) else {
         return DeskEnd {
@@ -104,7 +106,7 @@ pub fn desk<O: Opener, K: Sink>(
     sink: &mut K,
 ) -> DeskEnd<O::S>
     // What a run does, whole: what is due for these words and feeds, and how it was written.
-    ensures course { IsCourse O.S.left O.S.faults (opener_seen O.told O.faults opener.old opener.new)
+    ensures course { IsCourse O.S.left O.S.faults (opener_seen O.told O.opens_told O.faults opener.old opener.new)
         (map string_bytes words.now) result.feeds.items result.status (sink_seen K.written K.faults sink.old sink.new) }
 
     // Status 0 comes only where each named feed was read to its end; the sink then got the report of what the sources gave.
@@ -112,20 +114,26 @@ pub fn desk<O: Opener, K: Sink>(
         IsReported O.S.left O.S.faults (O.told opener.old) (map string_bytes words.now) result.feeds.items
         (K.written sink.old) (K.written sink.new) }
 
-    // The converse: plain feeds of distinct books have status 0, unless an opening, a read or a write fails or memory is wanting.
+    // The converse: plain feeds of distinct books have status 0, unless an opening, a read or a write fails or memory is wanting. An
+    // opener that promised to fail only under a name that has no source left opens all of them.
     ensures complete { NamePlainFeeds (O.told opener.old) (map string_bytes words.now) →
-        HasNoFault O.S.faults (opener_seen O.told O.faults opener.old opener.new) result.feeds.items
+        HasNoFault O.S.faults (opener_seen O.told O.opens_told O.faults opener.old opener.new) result.feeds.items
         (sink_seen K.written K.faults sink.old sink.new) → (result.status ≡ 0) ⊎ (result.status ≡ 7) }
 
     // Each other status but 7 has its cause. Words that are no command, a named feed that the opener has no source for, a failed
     // read and a line that is not built also have their status, unless a write fails or memory is wanting; words that are no
-    // command take none. All feeds are opened before the first is read: where one of them has no source, none is begun.
+    // command take none. All feeds are opened before the first is read: where one of them has no source, none is begun. With the
+    // opener's promise to fail only under a name that has no source left, a feed without a source is the one cause of status 3;
+    // with its promise that no read fails, status 4 does not come.
     ensures no_command { result.status ≡ 2 → named_feeds (map string_bytes words.now) ≡ None }
     ensures no_command_due { named_feeds (map string_bytes words.now) ≡ None → (result.status ≡ 2) ⊎ (result.status ≡ 5) }
     ensures not_opened { result.status ≡ 3 → Rose (O.faults opener.old) (O.faults opener.new) }
+    ensures not_opened_missing { O.opens_told opener.old → result.status ≡ 3 →
+        NameMissingFeed (O.told opener.old) (map string_bytes words.now) }
     ensures not_opened_due { NameMissingFeed (O.told opener.old) (map string_bytes words.now) → IsOrYields 3 result.status }
     ensures none_begun { NameMissingFeed (O.told opener.old) (map string_bytes words.now) → result.feeds.items ≡ [] }
     ensures not_read { result.status ≡ 4 → StopsAtLast FeedStop.ReadFault result.feeds.items }
+    ensures read_as_promised { O.promises opener.old → result.status ≢ 4 }
     ensures not_read_due { StopsAtLast FeedStop.ReadFault result.feeds.items → IsOrYields 4 result.status }
     ensures not_written { result.status ≡ 5 → Rose (K.faults sink.old) (K.faults sink.new) }
     ensures no_memory { result.status ≡ 7 → Keeps (K.written sink.old) (K.written sink.new) }

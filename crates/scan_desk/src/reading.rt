@@ -35,6 +35,8 @@ fn read_header<S: Source + Drop>(
     ensures header { IfOk result (IsHeaderOf (books_of earlier.now) reader.new) }
     ensures stop { IfErr result (λ stop. StopsAtHeader S.left S.faults (books_of earlier.now) stop reader.old reader.new) }
     ensures goes_on { GoesOn S.left S.faults reader.old reader.new }
+    ensures promised { S.never_fails reader.old.source → IfErr result (λ stop. stop ≢ FeedStop.ReadFault) }
+    ensures promise_kept { S.never_fails reader.old.source → S.never_fails reader.new.source }
 {
     match reader.next() {
         Ok(Step::Header(header)) => {
@@ -61,6 +63,7 @@ fn read_lines<S: Source + Drop>(
     ensures stop { StopsAfter S.left S.faults (answered (book_named reader.old.taken) result.0.items) result.1 reader.old reader.new }
     ensures lines { All IsResultQuote result.0.items }
     ensures goes_on { GoesOn S.left S.faults reader.old reader.new }
+    ensures promised { S.never_fails reader.old.source → result.1 ≢ FeedStop.ReadFault }
 {
     let mut accepted = Vec::new(alloc);
     loop {
@@ -106,8 +109,9 @@ pub(crate) fn read_feed<S: Source + Drop>(
     feed: u8,
     earlier: &[ReadFeed],
 ) -> (FeedEnd<S>, Option<ReadFeed>)
-    ensures { (told : Option (List ℕ)) → IsOpened S.left S.faults told source →
+    ensures feed { (told : Option (List ℕ)) → IsOpened S.left S.faults told source →
         IsFeedOf S.left S.faults told (books_of earlier.now) feed result.0 result.1 }
+    ensures promised { S.never_fails source → result.0.stop ≢ FeedStop.ReadFault }
 {
     let mut reader = FeedReader::new(alloc, source, feed);
     match read_header(&mut reader, earlier) {

@@ -1,6 +1,6 @@
 //! Reading the feeds one after another.
 
-ghost use Rattle.std.specs.Prelude.{ℕ, List, Option, ◌<◌, ◌≤◌, IfOk};
+ghost use Rattle.std.specs.Prelude.{ℕ, List, Option, ◌≢◌, ◌<◌, ◌≤◌, All, IfOk};
 ghost use Rattle.std.specs.VecDeque.{deque_len};
 ghost use Rattle.scan_desk.specs.Opening.{AreOpened};
 ghost use Rattle.scan_desk.specs.Readings.{AreRead};
@@ -28,8 +28,9 @@ pub(crate) fn read_all<S: Source + Drop>(
 ) -> Result<Readings<S>, WantOfMemory>
     requires some { 0 < deque_len sources }
     requires few { deque_len sources ≤ 8 }
-    ensures { IfOk result (λ readings. (told : ℕ → Option (List ℕ)) → AreOpened S.left S.faults told 0 sources.items →
+    ensures read { IfOk result (λ readings. (told : ℕ → Option (List ℕ)) → AreOpened S.left S.faults told 0 sources.items →
         AreRead S.left S.faults told (deque_len sources) readings.ends.items readings.feeds.items readings.stop) }
+    ensures promised { All S.never_fails sources.items → IfOk result (λ readings. readings.stop ≢ FeedStop.ReadFault) }
 {
     let mut ends = Vec::with_capacity(alloc, sources.len())?;
     let mut feeds = Vec::with_capacity(alloc, sources.len())?;

@@ -3,7 +3,7 @@
 ghost use Rattle.std.specs.Prelude.{◌≤◌};
 
 use super::*;
-use desk_io::{MemFile, MemOpener, MemSink};
+use desk_io::{MemFile, MemOpener, MemSink, Opener};
 use std::alloc::{AllocError, Global};
 use std::test::Fail;
 
@@ -165,6 +165,30 @@ fn each_refusal_has_its_line(rt: HostRuntime) -> Result<(), Fail> {
         assert_eq!(rt; status, want.0);
         assert_eq!(rt; str::from_utf8(&written)?, want.1);
     }
+    Ok(())
+}
+
+#[test]
+fn only_the_named_feed_is_opened(rt: HostRuntime) -> Result<(), Fail> {
+    let alloc = rt.alloc();
+    let files = vec![in alloc;
+        file(alloc, "a", ALPHA, None)?,
+        file(alloc, "b", BETA, None)?,
+    ]?;
+    // Any opening after the first fails: the run makes one, and the second is made here.
+    let mut opener = MemOpener::new(files, vec![in alloc; 2]?);
+    let mut sink = MemSink::new(alloc, 4096, 7, Vec::new(alloc))
+        .ok()
+        .ok_or("room")?;
+    let end = desk(
+        alloc,
+        &words(alloc, &["once", "a"])?,
+        &mut opener,
+        &mut sink,
+    );
+    assert_eq!(rt; end.status, 0);
+    assert!(rt; opener.open_feed("b").is_err());
+    assert!(rt; opener.open_feed("b").is_ok());
     Ok(())
 }
 

@@ -1,8 +1,9 @@
-use Rattle.std.proofs.Common.{◌≡◌, ◌≤◌, map, take, string_bytes}
+use Rattle.std.proofs.Common.{◌≡◌, ◌≤◌, map, take, string_bytes, All}
 use Rattle.std.specs.VecDeque.{deque_len}
 use Rattle.scan_desk.specs.Told.{told_bytes, HasSources}
 use Rattle.scan_desk.specs.Opening.{AreOpened}
 use Rattle.desk_io.specs.Opener.{OpenedUnder}
+use Rattle.scan_desk.proofs.Opened.{StaysUntold}
 use Rattle.scan_desk.proofs.opening.open_all.Given as goal
 
 -- the sources so far are those of the first names, and what is told now is what is left of what was told
@@ -13,6 +14,10 @@ invariant-loop-number g l =
     record {
       count : deque_len l.sources ≡ l.number;
       faults : g.O.Opener.faults l.fn.opener ≤ g.O.Opener.faults l.opener;
+      promise : g.O.Opener.opens_told l.fn.opener → g.O.Opener.opens_told l.opener;
+      promises_kept : g.O.Opener.promises l.fn.opener → g.O.Opener.promises l.opener;
+      never : g.O.Opener.promises l.fn.opener → All g.O.S.Source.never_fails l.sources.items;
+      untold : StaysUntold told_first (g.O.Opener.told l.opener);
       told : OpenedUnder (take l.number names) told_first (g.O.Opener.told l.opener);
       enough : HasSources told_first (take l.number names);
       opened : AreOpened g.O.S.Source.left g.O.S.Source.faults (told_bytes told_first names) 0 l.sources.items;

@@ -3,8 +3,8 @@ use Rattle.scan_desk.specs.Reading.{books_of}
 use Rattle.scan_desk.proofs.FeedOf.{feed_of, feed_before_header}
 use Rattle.scan_desk.proofs.reading.read_feed.Goals as goal
 
-pub returns-in-Ok : goal.returns-in-Ok
-returns-in-Ok g c = λ told opened.
+pub returns-in-Ok-clause-feed : goal.returns-in-Ok-clause-feed
+returns-in-Ok-clause-feed g c = λ told opened.
     let S = g.S.Source in
     let first = c.new-reader.result in
     let old = c.read_header.new.reader in
@@ -13,8 +13,8 @@ returns-in-Ok g c = λ told opened.
     (record { header = c.in-Ok.header; lines = c.lines-lines.result; accepted = c.read_lines-accepted.result.0 }) c.read_lines-accepted.result.1 c.whole_feed-whole.result
     opened (ap (λ r. r.source) c.new-reader.ensures) (ap (λ r. r.taken) c.new-reader.ensures) c.read_header.ensures.goes_on c.read_lines-accepted.ensures.goes_on c.in-Ok.ensures.header c.read_lines-accepted.ensures.stop c.read_lines-accepted.ensures.lines c.lines-lines.ensures c.whole_feed-whole.ensures)
 
-pub returns-in-Err : goal.returns-in-Err
-returns-in-Err g c = λ told opened.
+pub returns-in-Err-clause-feed : goal.returns-in-Err-clause-feed
+returns-in-Err-clause-feed g c = λ told opened.
     let S = g.S.Source in
     let first = c.new-reader.result in
     rw c.into_source.ensures (feed_before_header S.left S.faults told c.args.source (books_of c.args.earlier.now) c.args.feed first c.read_header.new.reader c.in-Err.stop

@@ -21,6 +21,7 @@ loop-line-preserved g c =
       steps = rw (items, answered_push book c.loop-line.accepted.items line)
           (HasAnswered_more c.loop-line.reader c.next.new.self (answered book c.loop-line.accepted.items) (Accepts line.line (line_text line)) inv.steps (c.next.ensures.earlier false false)
           (rw c.in-Ok-Line.field-0-is at c.in-Ok-Line.ensures.step) c.in-Ok-Line.ensures.counted (rw c.in-Ok-Line.field-0-is at c.in-Ok-Line.ensures.over));
+      promise = λ never. c.next.ensures.promise_kept (inv.promise never);
       lines = rw items (All-push IsResultQuote c.loop-line.accepted.items line inv.lines (rw c.in-Ok-Line.field-0-is at c.in-Ok-Line.ensures.plain));
     }
 

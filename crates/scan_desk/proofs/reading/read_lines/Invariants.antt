@@ -9,6 +9,7 @@ abbrev pub invariant-loop-line : goal.invariant-loop-line
 invariant-loop-line g l = record {
   goes_on : GoesOn g.S.Source.left g.S.Source.faults l.fn.reader l.reader;
   steps : HasAnswered l.reader (answered (book_named l.fn.reader.taken) l.accepted.items);
+  promise : g.S.Source.never_fails l.fn.reader.source → g.S.Source.never_fails l.reader.source;
   lines : All IsResultQuote l.accepted.items;
 }
 

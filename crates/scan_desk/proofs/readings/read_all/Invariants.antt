@@ -1,4 +1,4 @@
-use Rattle.std.proofs.Common.{ℕ, List, Option, ◌≡◌, ◌≤◌, ◌+◌, vec_len, vec_capacity}
+use Rattle.std.proofs.Common.{ℕ, List, Option, ◌≡◌, ◌≤◌, ◌+◌, All, vec_len, vec_capacity}
 use Rattle.std.specs.VecDeque.{deque_len}
 use Rattle.scan_desk.specs.Opening.{AreOpened}
 use Rattle.scan_desk.specs.Readings.{HasRead}
@@ -11,6 +11,7 @@ invariant-loop-source g l = record {
   whole : vec_len l.feeds ≡ vec_len l.ends;
   room : deque_len l.fn.sources ≤ vec_capacity l.ends;
   room_whole : deque_len l.fn.sources ≤ vec_capacity l.feeds;
+  never : All g.S.Source.never_fails l.fn.sources.items → All g.S.Source.never_fails l.sources.items;
   read : (told : ℕ → Option (List ℕ)) → AreOpened g.S.Source.left g.S.Source.faults told 0 l.fn.sources.items →
       HasRead g.S.Source.left g.S.Source.faults told l.ends.items l.feeds.items l.sources.items;
 }
