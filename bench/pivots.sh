@@ -4,11 +4,15 @@
 # each product and a division of each entry. It is no part of the gate. It needs `rt` and `cc`, and proves and builds its
 # program in a folder of its own.
 #
-#     bench/pivots.sh [RUNS] [PIVOTS]     RUNS runs of PIVOTS pivots each (20 and 12 if not given)
+#     bench/pivots.sh [RUNS] [PIVOTS] [BITS]     RUNS runs of PIVOTS pivots each (20 and 12 if not given)
+#
+# The made gains are from -12 to 10, and with them no row of the first 40 pivots leaves 64 bits. With BITS from 1 to 100 the gains
+# of the last 16 offers are 2^BITS times as large: with 64 every row that has been combined is wider than 64 bits.
 set -eu
 top=$(cd "$(dirname "$0")/.." && pwd)
 runs=${1:-20}
 pivots=${2:-12}
+bits=${3:-0}
 folder=$(mktemp -d)
 trap 'rm -rf "$folder"' EXIT
 
@@ -36,6 +40,7 @@ use std::time::Instant;
 
 const OFFERS: u32 = 256;
 const CLASSES: u32 = 98;
+const WIDE: u32 = 16;
 
 // The next state of the generator, and a number from -12 to 10 of it.
 fn next(x: u64) -> u64 {
@@ -53,9 +58,10 @@ fn made(alloc: Global) -> io::Result<(Vec<i128>, Vec<i128>)> {
     let mut x = 1;
     for _ in 0..CLASSES {
         coefs.push(1)?;
-        for _ in 0..OFFERS {
+        for offer in 0..OFFERS {
             x = next(x);
-            coefs.push(small(x))?;
+            let bits = if offer < OFFERS - WIDE { 0 } else { $bits };
+            coefs.push(small(x) << bits)?;
         }
         right.push(0)?;
     }
@@ -128,7 +134,7 @@ cat > "$folder/plain.c" <<'PLAIN'
 #include <time.h>
 typedef __int128 i128;
 typedef unsigned __int128 u128;
-enum { OFFERS = 256, CLASSES = 98, C = OFFERS + 1, R = CLASSES + OFFERS + 1, W = C + R + 1 };
+enum { OFFERS = 256, CLASSES = 98, WIDE = 16, C = OFFERS + 1, R = CLASSES + OFFERS + 1, W = C + R + 1 };
 static const i128 MOST = (i128)(((u128)1 << 127) - 1);
 static i128 rows[R + 1][W];
 static int basis[R];
@@ -146,12 +152,12 @@ static u128 gcd(u128 a, u128 b) {
     }
     return a;
 }
-static void build(void) {
+static void build(int bits) {
     memset(rows, 0, sizeof rows);
     state = 1;
     for (int r = 0; r < CLASSES; r++) {
         rows[r][0] = 1;
-        for (int o = 0; o < OFFERS; o++) rows[r][1 + o] = (i128)(next() >> 33) % 23 - 12;
+        for (int o = 0; o < OFFERS; o++) rows[r][1 + o] = ((i128)(next() >> 33) % 23 - 12) * ((i128)1 << (o < OFFERS - WIDE ? 0 : bits));
     }
     for (int o = 0; o < OFFERS; o++) {
         rows[CLASSES + o][1 + o] = 1;
@@ -210,7 +216,7 @@ static int run(int budget) {
 int main(int count, char **words) {
     for (int i = 0; i < atoi(words[1]); i++) {
         struct timespec from, to;
-        build();
+        build(atoi(words[3]));
         clock_gettime(CLOCK_MONOTONIC, &from);
         int n = run(atoi(words[2]));
         clock_gettime(CLOCK_MONOTONIC, &to);
@@ -221,7 +227,7 @@ PLAIN
 cc -O2 -o "$folder/plain" "$folder/plain.c"
 
 (cd "$folder/crates/pivot_bench" && rt run) > "$folder/ours.txt" 2> "$folder/ours.log" || { tail -40 "$folder/ours.log"; exit 1; }
-"$folder/plain" "$runs" "$pivots" > "$folder/theirs.txt"
+"$folder/plain" "$runs" "$pivots" "$bits" > "$folder/theirs.txt"
 
 # The fastest run of each is the one that the rest of the machine disturbed least.
 best() { grep -E '^[0-9]+ [0-9]+$' "$1" | awk '$2 > 0 { s = $1 * 1000000 / $2; if (s > b) { b = s; n = $1 } } END { printf "%d %.1f\n", n, b }'; }
@@ -229,4 +235,8 @@ read -r ours_count ours < <(best "$folder/ours.txt")
 read -r plain_count plain < <(best "$folder/theirs.txt")
 echo "pivot_rule::run  $ours_count pivots, $ours pivots per second"
 echo "a plain loop     $plain_count pivots, $plain pivots per second"
+if [ "$ours_count" != "$plain_count" ]; then
+    echo "the two made different numbers of pivots" >&2
+    exit 1
+fi
 awk -v a="$ours" -v b="$plain" 'BEGIN { printf "ratio            %.2f\n", a / b }'
