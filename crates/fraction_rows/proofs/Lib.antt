@@ -1,6 +1,7 @@
+pub mod BitLengths
 pub mod Columns
 pub mod Inverses
-pub mod NarrowRows
 pub mod Quotients
 pub mod Scan
+pub mod ShortProducts
 pub mod Written

@@ -1,3 +1,3 @@
 pub mod Combinable
 pub mod Exact
-pub mod Narrow
+pub mod Lengths

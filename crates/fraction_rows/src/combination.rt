@@ -1,13 +1,14 @@
 // The combination of two rows that makes the first 0 in a column.
-ghost use Rattle.std.specs.Prelude.{◌≡◌, ◌<◌, ◌^◌, length, ◌-ℤ◌, ◌*ℤ◌, SomeIff, IfSome, IfNone, OnOk, IfErr, OnErr};
+ghost use Rattle.std.specs.Prelude.{◌≡◌, ◌<◌, ◌≤◌, ◌^◌, length, ℤ, ◌-ℤ◌, ◌*ℤ◌, unsigned_abs, SomeIff, IfSome, IfNone, IsTrue, OnOk, IfErr, OnErr};
 ghost use Rattle.std.specs.List.{All};
 ghost use Rattle.row_definitions.specs.Rows.{IsPositiveMultiple};
 ghost use Rattle.row_definitions.specs.Combination.{FitsEntry, ProductsFit, PassesNowhere, PassesFirst, plain_combination, combined, target_factor, pivot_factor};
 ghost use Rattle.fraction_rows.specs.Combinable.{Combinable};
+ghost use Rattle.fraction_rows.specs.Lengths.{HasBits, IsBitLength};
 
 use crate::division::primitive;
 use crate::divisor::{divisor_of_pair, quotient};
-use crate::narrow::is_narrow;
+use crate::length::{bit_length, length_of};
 
 /// A combination passed 128 bits: in this column, the first such, one of the two products or their difference is above
 /// `2^127 - 1` or below `-(2^127 - 1)`.
@@ -22,8 +23,8 @@ pub struct Passed {
 /// pivot`, in which nothing is divided, is a positive multiple of it. Where a product or a difference passes 128 bits,
 /// the first such column is answered and the target stays as it was. The pivot's entry in the column is above 0, and no
 /// entry is the least `i128`. Both rows have one length, below 2^32, and `at` is one of their columns. Costs a scan of
-/// each row that sees whether both are narrow, `first_passing` where they are not, a scan that writes, and `primitive`.
-/// A pivot of several rows tests all of them before it writes any, so it calls the two halves, `first_passing` and
+/// each row for its bit length, `first_passing`, a scan that writes, and `primitive`. A pivot of several rows knows their
+/// bit lengths and tests all of them before it writes any, so it calls the two halves, `first_passing` and
 /// `combine_within`.
 pub fn combine(target: &mut [i128], pivot: &[i128], at: usize) -> Result<(), Passed>
     requires combinable { Combinable target.old pivot.now at }
@@ -38,7 +39,7 @@ pub fn combine(target: &mut [i128], pivot: &[i128], at: usize) -> Result<(), Pas
 
     ensures fits { All FitsEntry target.new }
 {
-    match passing(target, pivot, at) {
+    match first_passing(target, bit_length(target), pivot, bit_length(pivot), at) {
         Some(column) => Err(Passed { column }),
         None => {
             combine_within(target, pivot, at);
@@ -47,38 +48,44 @@ pub fn combine(target: &mut [i128], pivot: &[i128], at: usize) -> Result<(), Pas
     }
 }
 
-// The test of `combine`: two narrow rows pass nowhere, which costs a scan of each; only where one of them is not narrow
-// are products formed.
-fn passing(target: &[i128], pivot: &[i128], at: usize) -> Option<u32>
+/// The test of `combine`, by the two rows and their bit lengths: the first column in which the combination passes 128 bits.
+/// The other conditions are those of `combine`. Mostly the bits of the two factors and of the rows are so few that no
+/// column can pass; else it costs one scan of both rows that forms each product and each difference up to the first that
+/// passes.
+pub fn first_passing(
+    target: &[i128],
+    target_bits: u32,
+    pivot: &[i128],
+    pivot_bits: u32,
+    at: usize,
+) -> Option<u32>
     requires combinable { Combinable target.now pivot.now at }
     requires columns { length target.now < 2 ^ 32 }
-
-    ensures first { IfSome result (PassesFirst target.now pivot.now at) }
-    ensures nowhere { IfNone result (PassesNowhere target.now pivot.now at) }
-{
-    if is_narrow(target) && is_narrow(pivot) {
-        return None;
-    }
-    first_passing(target, pivot, at)
-}
-
-/// The test of `combine`, as one scan of both rows that forms each product and each difference up to the first that
-/// passes: the first column in which the combination passes 128 bits. The conditions are those of `combine`. A caller that
-/// knows that both rows are narrow, as `is_narrow` says, need not ask.
-pub fn first_passing(target: &[i128], pivot: &[i128], at: usize) -> Option<u32>
-    requires combinable { Combinable target.now pivot.now at }
-    requires columns { length target.now < 2 ^ 32 }
+    requires target_bits { IsBitLength target.now target_bits }
+    requires pivot_bits { IsBitLength pivot.now pivot_bits }
 
     ensures first { IfSome result (PassesFirst target.now pivot.now at) }
     ensures nowhere { IfNone result (PassesNowhere target.now pivot.now at) }
 {
     let factors = factors_of(target, pivot, at);
+    if are_short(factors.target, target_bits) && are_short(factors.pivot, pivot_bits) {
+        return None;
+    }
     for column in 0..target.len() {
         if checked_entry(target[column], pivot[column], factors).is_none() {
             return Some(column as u32);
         }
     }
     None
+}
+
+// Whether the products of the factor and of numbers that have at most so many bits are below 2^126 by their bits alone. The
+// difference of two such products is below 2^127.
+fn are_short(factor: i128, bits: u32) -> bool
+    requires { bits ≤ 128 }
+    ensures { IsTrue result → (x : ℤ) → HasBits bits x → HasBits 126 (factor *ℤ x) }
+{
+    length_of(factor.unsigned_abs()) + bits <= 126
 }
 
 /// What `combine` does where it passes nowhere, for a caller that tested that. The other conditions are those of

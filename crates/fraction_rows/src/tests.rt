@@ -38,16 +38,28 @@ fn combines_and_divides(rt: HostRuntime) {
 fn tests_before_it_combines(rt: HostRuntime) {
     // 3 * [5, 7] - 5 * [3, 2] = [0, 11].
     let mut target = [5, 7];
-    assert_eq!(rt; first_passing(&target, &[3, 2], 0), None);
-    combine_within(&mut target, &[3, 2], 0);
+    let pivot = [3, 2];
+    let target_bits = bit_length(&target);
+    assert_eq!(rt;
+        first_passing(&target, target_bits, &pivot, bit_length(&pivot), 0),
+        None
+    );
+    combine_within(&mut target, &pivot, 0);
     assert_eq!(rt; target, [0, 1]);
 }
 
 #[test]
-fn narrow_to_63_bits_and_a_sign(rt: HostRuntime) {
-    assert!(rt; is_narrow(&[0x7fff_ffff_ffff_ffff, -0x7fff_ffff_ffff_ffff, 0]));
-    assert!(rt; !is_narrow(&[0x8000_0000_0000_0000, 0]));
-    assert!(rt; !is_narrow(&[0, -0x8000_0000_0000_0000]));
+fn bit_length_is_that_of_the_greatest_size(rt: HostRuntime) {
+    assert_eq!(rt; bit_length(&[]), 0);
+    assert_eq!(rt; bit_length(&[0, 0]), 0);
+    assert_eq!(rt; bit_length(&[0, -1]), 1);
+    // 2 and 5 have the bits of 7 together, as many as 5.
+    assert_eq!(rt; bit_length(&[2, -5, 0]), 3);
+    assert_eq!(rt; bit_length(&[8, 7]), 4);
+    assert_eq!(rt; bit_length(&[1, -0x7fff_ffff_ffff_ffff]), 63);
+    assert_eq!(rt; bit_length(&[-0x8000_0000_0000_0000, 1]), 64);
+    assert_eq!(rt; bit_length(&[LARGEST]), 127);
+    assert_eq!(rt; bit_length(&[0, i128::MIN]), 128);
 }
 
 #[test]
@@ -195,6 +207,9 @@ fn combine_is_the_plain_one(rt: HostRuntime) -> Result<(), Fail> {
     // Wide, and within 128 bits.
     compare_combine(&rt, alloc, &[LARGE, LARGE, 3], &[LARGE, 1, 0], 0)?;
     compare_combine(&rt, alloc, &[PRIME * PRIME, 0, PRIME], &[PRIME, 1, 0], 0)?;
+    // Factors of 2 bits and rows of 124 and of 125, which do not pass: 5 * (2^124 - 1) and 5 * (2^124 + 1).
+    compare_combine(&rt, alloc, &[-2, LARGE / 4 - 1], &[3, LARGE / 4 - 1], 0)?;
+    compare_combine(&rt, alloc, &[-2, LARGE / 4 + 1], &[3, LARGE / 4 + 1], 0)?;
     compare_combine(&rt, alloc, &[0, LARGEST], &[1, 1], 1)
 }
 
@@ -208,6 +223,8 @@ fn combine_passes_as_the_plain_one(rt: HostRuntime) -> Result<(), Fail> {
     compare_combine(&rt, alloc, &[1, 0, -LARGEST], &[1, 0, 1], 0)?;
     compare_combine(&rt, alloc, &[1, 0, -LARGEST], &[1, 0, LARGEST], 0)?;
     compare_combine(&rt, alloc, &[-1, 0, LARGEST], &[1, 0, 1], 0)?;
+    // Factors of 2 bits and rows of 125: 5 * (2^125 - 1) in the last column, though no product passes.
+    compare_combine(&rt, alloc, &[-2, LARGE / 2 - 1], &[3, LARGE / 2 - 1], 0)?;
     // A product is the least number, which an entry may not be.
     compare_combine(&rt, alloc, &[1, -LARGE, 0], &[2, 0, 0], 0)
 }

@@ -4,8 +4,9 @@
 //!
 //! - `Program`: coefficients and right sides; the objective is column 0.
 //! - `Tableau::build`: the first tableau, the one call that takes memory: a number a place of the tableau.
-//! - `Tableau::pivot`: one pivot, in a few scans of each other row that is not 0 in the column: one that tests, unless the
-//!   row and the pivot row fit 64 bits, one that writes, those that divide, and one that sees whether it fits 64 bits now.
+//! - `Tableau::pivot`: one pivot, in a few scans of each other row that is not 0 in the column: one that tests, where the
+//!   bits of the row and of the pivot row leave that open, one that writes, those that divide, and one that sees how many
+//!   bits it has now.
 //! - `Tableau::basic`, `value`, `multiplier`: what a basic solution and its multipliers are read from.
 #![tactic(auto)]
 

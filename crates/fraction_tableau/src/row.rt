@@ -6,29 +6,28 @@ ghost use Rattle.pivot_definitions.specs.Tableaus.{built_row, built_objective};
 ghost use Rattle.fraction_tableau.specs.Combinable.{Combinable};
 
 use crate::program::Program;
-use fraction_rows::is_narrow;
+use fraction_rows::bit_length;
 use scan_types::WantOfMemory;
 use std::alloc::{AllocError, Global};
 use std::marker::Model;
 
-// One row of a tableau. Only this module knows where a row's numbers are. With them stands whether they fit 64 bits: of
-// two such rows no combination passes, so a pivot forms no product to test them.
+// One row of a tableau. Only this module knows where a row's numbers are. With them stands how many bits they have, by which
+// a pivot mostly sees that a combination passes nowhere and forms no product to test it.
 #[derive(Debug, Drop)]
 pub(crate) struct Row {
     entries: Vec<i128>,
-    narrow: bool,
+    bits: u32,
 }
 
 impl Model for Row {
-    ghost use Rattle.std.specs.Prelude.{List, ℤ, IsTrue};
-    ghost use Rattle.std.specs.List.{All};
-    ghost use Rattle.fraction_rows.specs.Narrow.{IsNarrow};
+    ghost use Rattle.std.specs.Prelude.{List, ℤ};
+    ghost use Rattle.fraction_rows.specs.Lengths.{IsBitLength};
 
     ghost Value = { List ℤ };
 
     ghost view = { λ r. r.entries.items };
 
-    ghost invariant = { λ r. IsTrue r.narrow → All IsNarrow r.entries.items };
+    ghost invariant = { λ r. IsBitLength r.entries.items r.bits };
 }
 
 impl Row {
@@ -36,8 +35,8 @@ impl Row {
     pub(crate) fn of(entries: Vec<i128>) -> Row
         ensures { result ≡ entries.items }
     {
-        let narrow = is_narrow(&entries);
-        Row { entries, narrow }
+        let bits = bit_length(&entries);
+        Row { entries, bits }
     }
 
     pub(crate) fn constraint(
@@ -77,7 +76,7 @@ impl Row {
     }
 
     // The first column in which the combination with the pivot row passes 128 bits. A row that is 0 in the column stays as
-    // it is, and passes nowhere; nor does the combination of two narrow rows. Any others cost one scan of both.
+    // it is, and passes nowhere.
     pub(crate) fn first_passing(&self, pivot: &Row, column: usize) -> Option<u32>
         requires { Combinable self.now pivot.now column }
         ensures first { IfSome result (PassesFirst self.now pivot.now column) }
@@ -86,18 +85,17 @@ impl Row {
         if self.entries[column] == 0 {
             return None;
         }
-        if self.narrow && pivot.narrow {
-            prove!({
-                fraction_rows::narrow_law();
-                true
-            });
-            return None;
-        }
-        fraction_rows::first_passing(self.entries(), pivot.entries(), column)
+        fraction_rows::first_passing(
+            self.entries(),
+            self.bits,
+            pivot.entries(),
+            pivot.bits,
+            column,
+        )
     }
 
     // Makes the row 0 in the column by the combination with the pivot row. Where the row is changed, one more scan sees
-    // whether it is narrow now.
+    // how many bits it has now.
     pub(crate) fn combine(&mut self, pivot: &Row, column: usize)
         requires combinable { Combinable self.old pivot.now column }
         requires passes_nowhere { PassesNowhere self.old pivot.now column }
@@ -106,7 +104,7 @@ impl Row {
     {
         if self.entries[column] != 0 {
             fraction_rows::combine_within(self.entries.as_mut_slice(), pivot.entries(), column);
-            self.narrow = is_narrow(&self.entries);
+            self.bits = bit_length(&self.entries);
         }
     }
 }

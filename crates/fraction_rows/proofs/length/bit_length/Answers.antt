@@ -1,0 +1,24 @@
+use Rattle.std.proofs.Common.{ℕ, ◌+◌, ◌<◌, ◌^◌, ◌↔◌, take, All, SFits, to_z-of_z, bit_or, subst, sym, rules}
+use Rattle.std.specs.Int.{w128}
+use Rattle.std.proofs.lemmas.List.{take_all}
+use Rattle.row_definitions.specs.Rows.{entry}
+use Rattle.fraction_rows.specs.Lengths.{HasBits}
+use Rattle.fraction_rows.proofs.BitLengths.{together-more}
+use Rattle.fraction_rows.proofs.length.bit_length.Goals as goal
+
+pub loop-x-preserved : goal.loop-x-preserved
+loop-x-preserved c =
+    let row = c.args.row.now in
+    let i = c.loop-x.x-index in
+    let fits : SFits w128 (entry row i) = search rules in
+    let size = simp (to_z-of_z fits) at c.unsigned_abs-sizes.ensures.value in
+    subst (λ size. (k : ℕ) → (bit_or c.loop-x.sizes size < 2 ^ k) ↔ All (HasBits k) (take (i + 1) row)) (sym size) (together-more row i c.loop-x.sizes c.loop-x-test.true c.loop-x.invariant)
+
+pub returns : goal.returns
+returns c =
+    let row = c.args.row.now in
+    let all = subst (λ xs. (k : ℕ) → (c.loop-x.sizes < 2 ^ k) ↔ All (HasBits k) xs) (take_all c.loop-x.x-index row c.loop-x-test.false) c.loop-x.invariant in
+    record {
+      enough = (all c.length_of.result).0 c.length_of.ensures.enough;
+      least = λ fewer has. c.length_of.ensures.least fewer ((all fewer).1 has);
+    }
