@@ -6,19 +6,19 @@ use Rattle.std.proofs.lemmas.List.Elements.{All-more, All-take}
 use lib.Count.{count_leading_zeros}
 use Rattle.row_definitions.specs.Rows.{entry}
 use Rattle.row_definitions.specs.Combination.{FitsEntry}
-use Rattle.fraction_rows.specs.Lengths.{HasBits, IsBitLength}
+use Rattle.fraction_rows.specs.BitLengths.{HasBits, IsBitLength}
 
 -- no fewer bits are enough for a number whose highest bit is the last of them
-length-least : (size bits fewer : ℕ) → 2 ^ bits ≤ 2 * size + 1 → size < 2 ^ fewer → bits ≤ fewer
-length-least size bits fewer top below =
+bit_length-least : (size bits fewer : ℕ) → 2 ^ bits ≤ 2 * size + 1 → size < 2 ^ fewer → bits ≤ fewer
+bit_length-least size bits fewer top below =
     let less : bits < fewer + 1 = lt_of_not-le (λ more. let power = pow_mono more in let double : 2 ^ (fewer + 1) ≡ 2 ^ fewer * 2 ^ 1 = pow-add 2 fewer 1 in omega (arith, power, double)) in
     omega (arith, less)
 
 -- 128 bits without the leading zeros
-pub length-is : (size : ℕ) → size < 2 ^ 128 → (bits : ℕ) × (128 - count_leading_zeros 128 size ≡ bits) × (size < 2 ^ bits) × ((fewer : ℕ) → size < 2 ^ fewer → bits ≤ fewer)
-length-is size fits =
+pub bit_length-is : (size : ℕ) → size < 2 ^ 128 → (bits : ℕ) × (128 - count_leading_zeros 128 size ≡ bits) × (size < 2 ^ bits) × ((fewer : ℕ) → size < 2 ^ fewer → bits ≤ fewer)
+bit_length-is size fits =
     let t = leading_length 128 size fits in
-    (t.0, omega (arith, t.1), t.2, λ fewer. length-least size t.0 fewer t.3)
+    (t.0, omega (arith, t.1), t.2, λ fewer. bit_length-least size t.0 fewer t.3)
 
 -- the row before the entry that is read
 before-bits : (k : ℕ) (row : List ℤ) (i : ℕ) → i < length row → All (HasBits k) (take (i + 1) row) → All (HasBits k) (take i row)
@@ -40,5 +40,5 @@ together-more row i sizes below so k = (
 )
 
 -- a row whose numbers fit an entry has at most 127 bits
-pub length-most : (row : List ℤ) (bits : ℕ) → IsBitLength row bits → All FitsEntry row → bits ≤ 127
-length-most row bits is fits = is.least 127 fits
+pub bit_length-most : (row : List ℤ) (bits : ℕ) → IsBitLength row bits → All FitsEntry row → bits ≤ 127
+bit_length-most row bits is fits = is.least 127 fits

@@ -6,7 +6,7 @@ use Rattle.std.proofs.lemmas.List.{get_or_past}
 use Rattle.std.proofs.lemmas.List.Elements.{All-get_or}
 use Rattle.row_definitions.specs.Rows.{entry}
 use Rattle.row_definitions.specs.Combination.{ProductsFit, PassesNowhere, target_factor, pivot_factor}
-use Rattle.fraction_rows.specs.Lengths.{HasBits}
+use Rattle.fraction_rows.specs.BitLengths.{HasBits}
 
 entry-bits : (k : ℕ) (row : List ℤ) (column : ℕ) → All (HasBits k) row → HasBits k (entry row column)
 entry-bits k row column h =

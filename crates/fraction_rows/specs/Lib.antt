@@ -1,3 +1,3 @@
+pub mod BitLengths
 pub mod Combinable
 pub mod Exact
-pub mod Lengths

@@ -4,11 +4,11 @@ ghost use Rattle.std.specs.List.{All};
 ghost use Rattle.row_definitions.specs.Rows.{IsPositiveMultiple};
 ghost use Rattle.row_definitions.specs.Combination.{FitsEntry, ProductsFit, PassesNowhere, PassesFirst, plain_combination, combined, target_factor, pivot_factor};
 ghost use Rattle.fraction_rows.specs.Combinable.{Combinable};
-ghost use Rattle.fraction_rows.specs.Lengths.{HasBits, IsBitLength};
+ghost use Rattle.fraction_rows.specs.BitLengths.{HasBits, IsBitLength};
 
+use crate::bits::{bit_length, bits_of};
 use crate::division::primitive;
 use crate::divisor::{divisor_of_pair, quotient};
-use crate::length::{bit_length, length_of};
 
 /// A combination passed 128 bits: in this column, the first such, one of the two products or their difference is above
 /// `2^127 - 1` or below `-(2^127 - 1)`.
@@ -23,9 +23,9 @@ pub struct Passed {
 /// pivot`, in which nothing is divided, is a positive multiple of it. Where a product or a difference passes 128 bits,
 /// the first such column is answered and the target stays as it was. The pivot's entry in the column is above 0, and no
 /// entry is the least `i128`. Both rows have one length, below 2^32, and `at` is one of their columns. Costs a scan of
-/// each row for its bit length, `first_passing`, a scan that writes, and `primitive`. A pivot of several rows knows their
-/// bit lengths and tests all of them before it writes any, so it calls the two halves, `first_passing` and
-/// `combine_within`.
+/// each row for its bit length, `first_passing`, Euclid's algorithm once more, a scan that writes, and `primitive`. A pivot
+/// of several rows knows their bit lengths and tests all of them before it writes any, so it calls the two halves,
+/// `first_passing` and `combine_within`.
 pub fn combine(target: &mut [i128], pivot: &[i128], at: usize) -> Result<(), Passed>
     requires combinable { Combinable target.old pivot.now at }
     requires columns { length target.old < 2 ^ 32 }
@@ -48,10 +48,10 @@ pub fn combine(target: &mut [i128], pivot: &[i128], at: usize) -> Result<(), Pas
     }
 }
 
-/// The test of `combine`, by the two rows and their bit lengths: the first column in which the combination passes 128 bits.
-/// The other conditions are those of `combine`. Mostly the bits of the two factors and of the rows are so few that no
-/// column can pass; else it costs one scan of both rows that forms each product and each difference up to the first that
-/// passes.
+/// The test of `combine`, by the two rows and their bit lengths: the first column in which the combination passes 128 bits,
+/// or none. The other conditions are those of `combine`. Costs a run of Euclid's algorithm for the two factors. Mostly
+/// their bits and those of the rows are so few that no column can pass; else it costs one scan of both rows more, which
+/// forms each product and each difference up to the first that passes.
 pub fn first_passing(
     target: &[i128],
     target_bits: u32,
@@ -68,7 +68,9 @@ pub fn first_passing(
     ensures nowhere { IfNone result (PassesNowhere target.now pivot.now at) }
 {
     let factors = factors_of(target, pivot, at);
-    if are_short(factors.target, target_bits) && are_short(factors.pivot, pivot_bits) {
+    if products_are_short(factors.target, target_bits)
+        && products_are_short(factors.pivot, pivot_bits)
+    {
         return None;
     }
     for column in 0..target.len() {
@@ -79,13 +81,13 @@ pub fn first_passing(
     None
 }
 
-// Whether the products of the factor and of numbers that have at most so many bits are below 2^126 by their bits alone. The
-// difference of two such products is below 2^127.
-fn are_short(factor: i128, bits: u32) -> bool
+// Whether the products of the factor and of numbers that have at most so many bits have sizes below 2^126, by their bits
+// alone. The size of a difference of two such products is below 2^127.
+fn products_are_short(factor: i128, bits: u32) -> bool
     requires { bits ≤ 128 }
     ensures { IsTrue result → (x : ℤ) → HasBits bits x → HasBits 126 (factor *ℤ x) }
 {
-    length_of(factor.unsigned_abs()) + bits <= 126
+    bits_of(factor.unsigned_abs()) + bits <= 126
 }
 
 /// What `combine` does where it passes nowhere, for a caller that tested that. The other conditions are those of

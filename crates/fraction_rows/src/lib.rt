@@ -4,19 +4,19 @@
 //! - `primitive`: divides a row by the greatest common divisor of its entries.
 //! - `combine`: makes a row 0 in a column by adding a multiple of another, or says in which column a number passed 128
 //!   bits. `first_passing` is its test and `combine_within` its work, each on its own.
-//! - `bit_length`: how many bits the numbers of a row have. `first_passing` mostly needs no more to answer, so a caller that
-//!   keeps it with each row saves `combine`'s scans.
+//! - `bit_length`: how many bits the numbers of a row have. `first_passing` mostly answers by it and the two entries of the
+//!   column alone, so a caller that keeps it with each row saves `combine`'s scans.
 #![tactic(auto)]
 
+mod bits;
 mod combination;
 mod division;
 mod divisor;
 mod exact;
-mod length;
 
+pub use bits::bit_length;
 pub use combination::{Passed, combine, combine_within, first_passing};
 pub use division::primitive;
-pub use length::bit_length;
 
 #[cfg(test)]
 mod plain;

@@ -1,5 +1,6 @@
-// Plain, slow programs with the contracts of `primitive` and `combine`, which tests compare those with: Euclid's algorithm
-// over all entries, then one division an entry; each product tested before any is written.
+// Plain, slow programs with the clauses of `primitive` and `combine` that fix what they answer and leave. Tests compare
+// those with them: Euclid's algorithm over all entries, then one division an entry; each product tested before any is
+// written.
 ghost use Rattle.std.specs.Prelude.{◌≡◌, ◌<◌, ◌^◌, length, pos, IfSome, IfNone, OnOk, IfErr, OnErr};
 ghost use Rattle.std.specs.Int.{IsGcd};
 ghost use Rattle.std.specs.List.{All};

@@ -5,8 +5,8 @@
 //! - `Program`: coefficients and right sides; the objective is column 0.
 //! - `Tableau::build`: the first tableau, the one call that takes memory: a number a place of the tableau.
 //! - `Tableau::pivot`: one pivot, in a few scans of each other row that is not 0 in the column: one that tests, where the
-//!   bits of the row and of the pivot row leave that open, one that writes, those that divide, and one that sees how many
-//!   bits it has now.
+//!   bits of both rows and of their factors leave that open, one that writes, those that divide, and one that sees how
+//!   many bits it has now.
 //! - `Tableau::basic`, `value`, `multiplier`: what a basic solution and its multipliers are read from.
 #![tactic(auto)]
 

@@ -7,7 +7,6 @@ ghost use Rattle.fraction_tableau.specs.Combinable.{Combinable};
 
 use crate::program::Program;
 use fraction_rows::bit_length;
-use scan_types::WantOfMemory;
 use std::alloc::{AllocError, Global};
 use std::marker::Model;
 
@@ -21,7 +20,7 @@ pub(crate) struct Row {
 
 impl Model for Row {
     ghost use Rattle.std.specs.Prelude.{List, ℤ};
-    ghost use Rattle.fraction_rows.specs.Lengths.{IsBitLength};
+    ghost use Rattle.fraction_rows.specs.BitLengths.{IsBitLength};
 
     ghost Value = { List ℤ };
 

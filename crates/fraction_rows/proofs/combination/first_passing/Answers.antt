@@ -2,24 +2,24 @@ use Rattle.std.proofs.Common.{◌<◌, length, ℤ, ◌*ℤ◌, SFits, subst, to
 use Rattle.std.specs.Int.{w128}
 use Rattle.row_definitions.specs.Rows.{entry}
 use Rattle.row_definitions.specs.Combination.{FitsAt}
-use Rattle.fraction_rows.specs.Lengths.{HasBits}
-use Rattle.fraction_rows.proofs.BitLengths.{length-most}
+use Rattle.fraction_rows.specs.BitLengths.{HasBits}
+use Rattle.fraction_rows.proofs.BitLengths.{bit_length-most}
 use Rattle.fraction_rows.proofs.Columns.{fails_from_none, holds_from_some}
 use Rattle.fraction_rows.proofs.ShortProducts.{short-passes_nowhere}
 use Rattle.fraction_rows.proofs.combination.first_passing.Goals as goal
 
-pub are_short-requires : goal.are_short-requires
-are_short-requires c = omega (arith, length-most c.args.target.now c.args.target_bits c.requires.target_bits c.requires.combinable.target_fits)
+pub products_are_short-requires : goal.products_are_short-requires
+products_are_short-requires c = omega (arith, bit_length-most c.args.target.now c.args.target_bits c.requires.target_bits c.requires.combinable.target_fits)
 
-pub are_short-requires-then-are_short : goal.are_short-requires-then-are_short
-are_short-requires-then-are_short c = omega (arith, length-most c.args.pivot.now c.args.pivot_bits c.requires.pivot_bits c.requires.combinable.pivot_fits)
+pub products_are_short-requires-then-products_are_short : goal.products_are_short-requires-then-products_are_short
+products_are_short-requires-then-products_are_short c = omega (arith, bit_length-most c.args.pivot.now c.args.pivot_bits c.requires.pivot_bits c.requires.combinable.pivot_fits)
 
-pub returns-then-are_short-2-clause-nowhere : goal.returns-then-are_short-2-clause-nowhere
-returns-then-are_short-2-clause-nowhere c =
+pub returns-then-products_are_short-2-clause-nowhere : goal.returns-then-products_are_short-2-clause-nowhere
+returns-then-products_are_short-2-clause-nowhere c =
     let first : SFits w128 c.factors_of-factors.result.target = search rules in
     let second : SFits w128 c.factors_of-factors.result.pivot = search rules in
-    let target_short = simp (to_z-of_z first) at (c.are_short.ensures c.if-are_short.true) in
-    let pivot_short = simp (to_z-of_z second) at (c.are_short-then-are_short.ensures c.if-are_short-2.true) in
+    let target_short = simp (to_z-of_z first) at (c.products_are_short.ensures c.if-products_are_short.true) in
+    let pivot_short = simp (to_z-of_z second) at (c.products_are_short-then-products_are_short.ensures c.if-products_are_short-2.true) in
     short-passes_nowhere c.args.target.now c.args.pivot.now c.args.at c.args.target_bits c.args.pivot_bits c.requires.target_bits.enough c.requires.pivot_bits.enough
     (subst (λ a. (x : ℤ) → HasBits c.args.target_bits x → HasBits 126 (a *ℤ x)) c.factors_of-factors.ensures.target target_short)
     (subst (λ a. (x : ℤ) → HasBits c.args.pivot_bits x → HasBits 126 (a *ℤ x)) c.factors_of-factors.ensures.pivot pivot_short)

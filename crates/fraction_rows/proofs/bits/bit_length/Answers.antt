@@ -2,9 +2,9 @@ use Rattle.std.proofs.Common.{ℕ, ◌+◌, ◌<◌, ◌^◌, ◌↔◌, take, A
 use Rattle.std.specs.Int.{w128}
 use Rattle.std.proofs.lemmas.List.{take_all}
 use Rattle.row_definitions.specs.Rows.{entry}
-use Rattle.fraction_rows.specs.Lengths.{HasBits}
+use Rattle.fraction_rows.specs.BitLengths.{HasBits}
 use Rattle.fraction_rows.proofs.BitLengths.{together-more}
-use Rattle.fraction_rows.proofs.length.bit_length.Goals as goal
+use Rattle.fraction_rows.proofs.bits.bit_length.Goals as goal
 
 pub loop-x-preserved : goal.loop-x-preserved
 loop-x-preserved c =
@@ -19,6 +19,6 @@ returns c =
     let row = c.args.row.now in
     let all = subst (λ xs. (k : ℕ) → (c.loop-x.sizes < 2 ^ k) ↔ All (HasBits k) xs) (take_all c.loop-x.x-index row c.loop-x-test.false) c.loop-x.invariant in
     record {
-      enough = (all c.length_of.result).0 c.length_of.ensures.enough;
-      least = λ fewer has. c.length_of.ensures.least fewer ((all fewer).1 has);
+      enough = (all c.bits_of.result).0 c.bits_of.ensures.enough;
+      least = λ fewer has. c.bits_of.ensures.least fewer ((all fewer).1 has);
     }

@@ -1,6 +1,6 @@
 // How many bits the numbers of a row have.
 ghost use Rattle.std.specs.Prelude.{ℕ, ◌<◌, ◌≤◌, ◌^◌};
-ghost use Rattle.fraction_rows.specs.Lengths.{IsBitLength};
+ghost use Rattle.fraction_rows.specs.BitLengths.{IsBitLength};
 
 /// The bit length of the row: the least number of bits that is enough for the size of each of its numbers, signs left out.
 /// From 0, where all are 0, to 128. Costs one scan of the row.
@@ -12,10 +12,11 @@ pub fn bit_length(row: &[i128]) -> u32
     for x in row {
         sizes |= x.unsigned_abs();
     }
-    length_of(sizes)
+    bits_of(sizes)
 }
 
-pub(crate) fn length_of(size: u128) -> u32
+// The least number of bits that is enough for a size: 0 for 0.
+pub(crate) fn bits_of(size: u128) -> u32
     ensures enough { size < 2 ^ result }
     ensures least { (fewer : ℕ) → size < 2 ^ fewer → result ≤ fewer }
 {
