@@ -1,8 +1,9 @@
 -- The bit length of a number, and how many bits all sizes that are read so far have together.
-use Rattle.std.proofs.Common.{◌≡◌, ℕ, ◌+◌, ◌-◌, ◌*◌, ◌<◌, ◌≤◌, ◌^◌, ◌↔◌, List, [], ◌∷◌, length, take, All, ℤ, pos, unsigned_abs, bit_or, subst, ap, ◌∙◌, arith, pow_mono, pow-add, lt_of_le_of_lt, lt_of_not-le}
+use Rattle.std.proofs.Common.{◌≡◌, ℕ, ◌+◌, ◌-◌, ◌*◌, ◌<◌, ◌≤◌, ◌^◌, ◌↔◌, List, length, All, ℤ, pos, unsigned_abs, bit_or, subst, arith, pow_mono, pow-add, lt_of_le_of_lt, lt_of_not-le}
 use Rattle.std.proofs.lemmas.Nat.{le_or_l, le_or_r, or_lt, leading_length}
-use Rattle.std.proofs.lemmas.List.{take_more, take_at, get_or-take, length-take-le}
-use Rattle.std.proofs.lemmas.List.Elements.{All-more, All-take}
+use Rattle.std.specs.List.{AllWithin}
+use Rattle.std.proofs.lemmas.List.{get_or_default}
+use Rattle.std.proofs.lemmas.List.Elements.{AllWithin-more, AllWithin-upto}
 use lib.Count.{count_leading_zeros}
 use Rattle.row_definitions.specs.Rows.{entry}
 use Rattle.row_definitions.specs.Combination.{FitsEntry}
@@ -20,23 +21,13 @@ bit_length-is size fits =
     let t = leading_length 128 size fits in
     (t.0, omega (arith, t.1), t.2, λ fewer. bit_length-least size t.0 fewer t.3)
 
--- the row before the entry that is read
-before-bits : (k : ℕ) (row : List ℤ) (i : ℕ) → i < length row → All (HasBits k) (take (i + 1) row) → All (HasBits k) (take i row)
-before-bits k row i below all =
-    let same = ap (take i) (take_more row i (pos 0) below) ∙ take_at (take i row) (entry row i ∷ []) i (length-take-le i row (omega arith)) in
-    subst (All (HasBits k)) same (All-take (HasBits k) i (take (i + 1) row) all)
-
-last-bits : (k : ℕ) (row : List ℤ) (i : ℕ) → i < length row → All (HasBits k) (take (i + 1) row) → HasBits k (entry row i)
-last-bits k row i below all =
-    let count : length (take (i + 1) row) ≡ i + 1 = length-take-le (i + 1) row (omega arith) in
-    subst (HasBits k) (get_or-take (i + 1) row i (pos 0) (omega arith)) (all i (pos 0) (omega (arith, count)))
-
 -- one more size is read: so many bits are enough for all together just where they are for each
-pub together-more : (row : List ℤ) (i sizes : ℕ) → i < length row → ((k : ℕ) → (sizes < 2 ^ k) ↔ All (HasBits k) (take i row))
-    → (k : ℕ) → (bit_or sizes (unsigned_abs (entry row i)) < 2 ^ k) ↔ All (HasBits k) (take (i + 1) row)
+pub together-more : (row : List ℤ) (i sizes : ℕ) → i < length row → ((k : ℕ) → (sizes < 2 ^ k) ↔ AllWithin (HasBits k) row 0 i)
+    → (k : ℕ) → (bit_or sizes (unsigned_abs (entry row i)) < 2 ^ k) ↔ AllWithin (HasBits k) row 0 (i + 1)
 together-more row i sizes below so k = (
-  λ less. All-more (HasBits k) row i (pos 0) below ((so k).0 (lt_of_le_of_lt (le_or_l sizes (unsigned_abs (entry row i))) less)) (lt_of_le_of_lt (le_or_r sizes (unsigned_abs (entry row i))) less),
-  λ all. or_lt k sizes (unsigned_abs (entry row i)) ((so k).1 (before-bits k row i below all)) (last-bits k row i below all),
+  λ less. AllWithin-more (HasBits k) row 0 i ((so k).0 (lt_of_le_of_lt (le_or_l sizes (unsigned_abs (entry row i))) less))
+      (λ d. subst (HasBits k) (get_or_default row i (pos 0) d below) (lt_of_le_of_lt (le_or_r sizes (unsigned_abs (entry row i))) less)),
+  λ all. or_lt k sizes (unsigned_abs (entry row i)) ((so k).1 (AllWithin-upto (HasBits k) row 0 (i + 1) i (omega arith) all)) (all i (pos 0) (omega arith) (omega arith)),
 )
 
 -- a row whose numbers fit an entry has at most 127 bits

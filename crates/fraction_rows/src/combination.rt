@@ -1,5 +1,5 @@
 // The combination of two rows that makes the first 0 in a column.
-ghost use Rattle.std.specs.Prelude.{◌≡◌, ◌<◌, ◌≤◌, ◌^◌, length, ℤ, ◌-ℤ◌, ◌*ℤ◌, unsigned_abs, SomeIff, IfSome, IfNone, IsTrue, OnOk, IfErr, OnErr};
+ghost use Rattle.std.specs.Prelude.{◌≡◌, ◌<◌, ◌≤◌, ◌^◌, length, ℤ, ◌-ℤ◌, ◌*ℤ◌, SomeIff, IfSome, IfNone, IsTrue, OnOk, IfErr, OnErr};
 ghost use Rattle.std.specs.List.{All};
 ghost use Rattle.row_definitions.specs.Rows.{IsPositiveMultiple};
 ghost use Rattle.row_definitions.specs.Combination.{FitsEntry, ProductsFit, PassesNowhere, PassesFirst, plain_combination, combined, target_factor, pivot_factor};

@@ -1,6 +1,6 @@
 // Division of what a number divides, without dividing: modulo 2^128 an odd number has an inverse, so a quotient that is
 // known to be whole is a product (T. Jebelean, "An algorithm for exact division", 1993).
-ghost use Rattle.std.specs.Prelude.{◌≡◌, ℕ, ◌-◌, ◌*◌, ◌/◌, ◌<◌, ◌^◌, ℤ, pos, ◌+ℤ◌, ◌*ℤ◌, ◌<ℤ◌, unsigned_abs, SomeIff};
+ghost use Rattle.std.specs.Prelude.{◌≡◌, ◌-◌, ◌/◌, ◌<◌, ◌^◌, ℤ, pos, ◌+ℤ◌, ◌*ℤ◌, ◌<ℤ◌, unsigned_abs, SomeIff};
 ghost use Rattle.std.specs.Int.{◌∣◌, w128, int_wrap};
 ghost use Rattle.row_definitions.specs.Rows.{divided};
 ghost use Rattle.row_definitions.specs.Combination.{FitsEntry};

@@ -1,7 +1,7 @@
-ghost use Rattle.std.specs.Prelude.{◌≡◌, ◌≢◌, ℕ, ◌<◌, ◌^◌, [], length, map, slice_index_or, pos, ◌<ℤ◌, OnOk, OnErr, IfErr, IfSome, IfNone, unsigned_abs};
+ghost use Rattle.std.specs.Prelude.{◌≡◌, ◌≢◌, ℕ, ◌<◌, [], length, map, slice_index_or, pos, ◌<ℤ◌, OnOk, OnErr, IfErr, IfSome, IfNone};
 ghost use Rattle.std.specs.List.{All};
-ghost use Rattle.row_definitions.specs.Combination.{FitsEntry, PassesNowhere, combined};
-ghost use Rattle.pivot_definitions.specs.Tableaus.{SimplexTableau, column_count, row_at, entry_at, others_combined, HasSameShape, IsKeptPivot, PivotFits, PivotPassesFirst};
+ghost use Rattle.row_definitions.specs.Combination.{PassesNowhere, combined};
+ghost use Rattle.pivot_definitions.specs.Tableaus.{column_count, entry_at, others_combined, HasSameShape, IsKeptPivot, PivotFits, PivotPassesFirst};
 ghost use Rattle.fraction_tableau.specs.Combinable.{Combinable};
 
 use crate::row::Row;

@@ -1,4 +1,4 @@
-ghost use Rattle.std.specs.Prelude.{◌≡◌, ◌≤◌, ◌<◌, ◌^◌, ◌↔◌, length, pos, ◌≤ℤ◌, unsigned_abs, IsTrue};
+ghost use Rattle.std.specs.Prelude.{◌≡◌, ◌<◌, ◌↔◌, length, pos, ◌≤ℤ◌, IsTrue};
 ghost use Rattle.std.specs.List.{All};
 ghost use Rattle.row_definitions.specs.Combination.{FitsEntry};
 ghost use Rattle.pivot_definitions.specs.Programs.{LinearProgram, IsWithinLimits, IsCapped, unit_row};

@@ -1,6 +1,5 @@
-ghost use Rattle.std.specs.Prelude.{◌≡◌, ◌≢◌, ℕ, ◌+◌, ◌-◌, ◌*◌, ◌<◌, ◌≤◌, ◌^◌, [], ◌∷◌, ◌++◌, length, replicate, IfOk, pos, ◌<ℤ◌, unsigned_abs, IfSome, IfNone};
+ghost use Rattle.std.specs.Prelude.{◌≡◌, ◌<◌, ◌++◌, replicate, IfOk, pos, IfSome, IfNone};
 ghost use Rattle.std.specs.List.{All};
-ghost use Rattle.row_definitions.specs.Rows.{entry};
 ghost use Rattle.row_definitions.specs.Combination.{FitsEntry, combined, PassesNowhere, PassesFirst};
 ghost use Rattle.pivot_definitions.specs.Tableaus.{built_row, built_objective};
 ghost use Rattle.fraction_tableau.specs.Combinable.{Combinable};

@@ -1,7 +1,6 @@
-ghost use Rattle.std.specs.Prelude.{◌≡◌, ℕ, ◌+◌, ◌<◌, ◌≤◌, ◌^◌, length, ◌==◌, IfOk, IfSome, pos, unsigned_abs, slice_index, position};
-ghost use Rattle.std.specs.List.{All};
+ghost use Rattle.std.specs.Prelude.{◌≡◌, ◌+◌, ◌<◌, ◌≤◌, length, ◌==◌, IfOk, IfSome, position};
 ghost use Rattle.row_definitions.specs.Combination.{FitsEntry};
-ghost use Rattle.pivot_definitions.specs.Tableaus.{IsKeptTableau, column_count, row_at, entry_at, right_side, objective, basic_column, multiplier_of, IsValueOf, built};
+ghost use Rattle.pivot_definitions.specs.Tableaus.{IsKeptTableau, column_count, entry_at, right_side, objective, basic_column, multiplier_of, IsValueOf, built};
 
 use crate::program::Program;
 use crate::row::Row;

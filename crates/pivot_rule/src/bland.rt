@@ -1,4 +1,3 @@
-ghost use Rattle.std.specs.Prelude.{◌≡◌};
 ghost use Rattle.pivot_definitions.specs.Tableaus.{HasSameShape};
 ghost use Rattle.pivot_rule.specs.Ends.{IsCappedStart, RunEndsAs, BestIsBest, EndIsOne};
 

@@ -1,4 +1,4 @@
-ghost use Rattle.std.specs.Prelude.{◌≡◌, ◌≢◌, ℕ, ◌+◌, ◌<◌, length, pos, ◌<ℤ◌, ◌≤ℤ◌, IsTrue, IfSome, IfNone, MatchBool};
+ghost use Rattle.std.specs.Prelude.{◌≡◌, ◌≢◌, ℕ, ◌<◌, pos, IsTrue, IfSome, IfNone, MatchBool};
 ghost use Rattle.pivot_definitions.specs.Tableaus.{column_count, entry_at, right_side};
 ghost use Rattle.pivot_definitions.specs.Runs.{IsBest, Enters, CanLeave, ComesBefore, Leaves, IsChoice};
 ghost use Rattle.pivot_definitions.specs.Feasible.{HasNoNegativeRightSide};
