@@ -12,7 +12,7 @@ use Rattle.scan_types.specs.declared.selection.Selection.{Selection}
 use Rattle.scan_types.specs.declared.selection.Selection.TheVariants.{Home, Draw, Away, HandicapHome, HandicapAway, Over, Under}
 use Rattle.scan_types.specs.declared.outcome.Outcome.{Outcome}
 use Rattle.scan_types.specs.declared.outcome.Outcome.TheVariants.{Full}
-use Rattle.settlement_definitions.specs.Laws.{IsOnResult}
+use Rattle.scan_types.specs.Selections.{IsOnResult}
 use Rattle.settlement_definitions.specs.Gain.{gain}
 use Rattle.settlement_definitions.specs.Measure.{mean, HasScoresInRange, IsPriceMeasure}
 use Rattle.settlement_definitions.specs.Verdicts.{IsRightCoherent}

@@ -1,3 +1,4 @@
+use crate::limits::SELECTIONS;
 use crate::line::{HandicapLine, TotalLine};
 
 /// What a bet backs. Handicap lines are seen from the home side, for the away bet too.
@@ -20,14 +21,14 @@ pub enum Selection {
 }
 
 impl Selection {
-    ghost use Rattle.std.specs.Prelude.{◌≡◌, ◌≤◌};
+    ghost use Rattle.std.specs.Prelude.{◌≡◌, ◌<◌};
     ghost use Rattle.scan_types.specs.Selections.{selection_number};
 
     /// The place of the selection in the order of selections, 0 to 142: the variants in their order,
     /// and within a variant the line rising.
     pub fn number(self) -> u8
         ensures value { result ≡ selection_number self }
-        ensures bound { result ≤ 142 }
+        ensures bound { result < SELECTIONS }
     {
         match self {
             Selection::Home => 0,
