@@ -4,6 +4,8 @@ pub mod Decided
 pub mod LaterGoals
 pub mod Abandonment
 pub mod Gain
+pub mod StandIns
+pub mod Classes
 pub mod Arbitrage
 pub mod Measure
 pub mod Verdicts
