@@ -2,7 +2,7 @@ use Rattle.std.specs.Prelude.{ℕ, ◌≡◌, ◌≤ℤ◌, List, All, Contains}
 use Rattle.scan_types.specs.declared.offer.Offer.{Offer}
 use Rattle.scan_types.specs.declared.outcome.Outcome.{Outcome}
 use Rattle.settlement_definitions.specs.Gain.{gain}
-use Rattle.settlement_definitions.specs.Arbitrage.{need, total_net, total_gain}
+use Rattle.finding_definitions.specs.Arbitrage.{need, total_net, total_gain}
 use Rattle.settlement_definitions.specs.StandIns.{is_final, stand_for, stand_ins}
 use Rattle.settlement_definitions.specs.Classes.{SettleAlike, classes_of}
 

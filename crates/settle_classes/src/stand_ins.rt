@@ -3,7 +3,7 @@ ghost use Rattle.settlement_definitions.specs.StandIns.{is_final, lead_step, sta
 ghost use Rattle.settlement_definitions.specs.StandIns.{stand_for as stand_for_outcome};
 ghost use Rattle.scan_types.specs.declared.offer.Offer.{Offer};
 ghost use Rattle.settlement_definitions.specs.Gain.{gain};
-ghost use Rattle.settlement_definitions.specs.Measure.{HasScoresInRange};
+ghost use Rattle.settlement_definitions.specs.Scores.{HasScoresInRange};
 
 use scan_types::Outcome;
 

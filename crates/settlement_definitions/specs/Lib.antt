@@ -4,9 +4,7 @@ pub mod Decided
 pub mod LaterGoals
 pub mod Abandonment
 pub mod Gain
+pub mod Scores
 pub mod StandIns
 pub mod Classes
-pub mod Arbitrage
-pub mod Measure
-pub mod Verdicts
 pub mod Laws
