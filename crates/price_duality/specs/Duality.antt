@@ -1,8 +1,8 @@
 use Rattle.std.specs.Prelude.{ℕ, pos, ◌≤◌, ◌*◌, ◌*ℤ◌, ◌≤ℤ◌, List}
 use Rattle.scan_types.specs.declared.offer.Offer.{Offer}
 use Rattle.scan_types.specs.declared.outcome.Outcome.{Outcome}
-use Rattle.settlement_definitions.specs.Arbitrage.{need, total_gain, IsArbitrage, ReachesUnit}
-use Rattle.settlement_definitions.specs.Verdicts.{IsRightCoherent}
+use Rattle.finding_definitions.specs.Arbitrage.{need, total_gain, IsArbitrage, ReachesUnit}
+use Rattle.finding_definitions.specs.Verdicts.{IsRightCoherent}
 
 -- stakes in fractions, the parts over the divisor, that win at least one minor unit at every final score
 -- and lose nothing at any abandonment, whatever the limits are

@@ -21,7 +21,10 @@ mod rule;
 mod selection;
 mod sheet;
 
-pub use limits::{MOST_FEEDS, MOST_LIMIT, MOST_NAME_BYTES, MOST_OFFERS, MOST_STANDING};
+pub use limits::{
+    MOST_FEEDS, MOST_LIMIT, MOST_MEASURE_ENTRIES, MOST_NAME_BYTES, MOST_OFFERS, MOST_PART,
+    MOST_SCORE, MOST_STANDING,
+};
 pub use line::{HandicapLine, TotalLine};
 pub use memory::WantOfMemory;
 pub use name::Name;

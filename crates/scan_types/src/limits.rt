@@ -14,3 +14,13 @@ pub const MOST_OFFERS: usize = 256;
 
 /// The largest stake limit, in minor units of the currency.
 pub const MOST_LIMIT: u32 = 100_000_000;
+
+/// Entries of a measure: one for each row that a program can have, and more.
+pub const MOST_MEASURE_ENTRIES: usize = 1_024;
+
+/// Goals of one side in settlement and in measures, 2^40, so that quarters of a goal stay far within 64 bits.
+pub const MOST_SCORE: u64 = 1_099_511_627_776;
+
+/// The largest part, divisor and weight of a certificate, 2^60 - 1, so that no sum over a sheet and a
+/// measure leaves 127 bits.
+pub const MOST_PART: u64 = 1_152_921_504_606_846_975;

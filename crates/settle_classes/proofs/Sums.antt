@@ -5,8 +5,8 @@ use Rattle.scan_types.specs.declared.offer.Offer.{Offer}
 use Rattle.scan_types.specs.declared.outcome.Outcome.{Outcome}
 use Rattle.scan_types.specs.declared.outcome.Outcome.TheVariants.{Full, Abandoned}
 use Rattle.settlement_definitions.specs.Gain.{gain, net}
-use Rattle.settlement_definitions.specs.Arbitrage.{need, sum_over, total_net, total_gain}
-use Rattle.settle_classes.specs.StandIns.{stand_for, stand_ins}
+use Rattle.finding_definitions.specs.Arbitrage.{need, sum_over, total_net, total_gain}
+use Rattle.settlement_definitions.specs.StandIns.{stand_for, stand_ins}
 use Rattle.settle_classes.proofs.Cover.{gain-stand_for}
 use Rattle.settle_classes.proofs.Table.{each_has_stand_in}
 

@@ -1,4 +1,2 @@
-pub mod StandIns
-pub mod Classes
 pub mod Rows
 pub mod Laws

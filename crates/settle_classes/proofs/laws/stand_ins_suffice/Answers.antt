@@ -1,4 +1,4 @@
-use Rattle.settlement_definitions.specs.Arbitrage.{total_net, total_gain}
+use Rattle.finding_definitions.specs.Arbitrage.{total_net, total_gain}
 use Rattle.settle_classes.proofs.Sums.{need_at_each, total_net-stand_for, total_gain-stand_for}
 use Rattle.settle_classes.proofs.laws.stand_ins_suffice.Goals as goal
 

@@ -1,11 +1,12 @@
-use Rattle.std.specs.Prelude.{ℕ, ℤ, pos, ◌≤◌, ◌<◌, ◌*◌, ◌/◌, ◌^◌, ◌+ℤ◌, ◌*ℤ◌, ◌≤ℤ◌, ◌<ℤ◌, List, [], ◌∷◌, All, map, sum_by}
+use Rattle.std.specs.Prelude.{ℕ, ℤ, pos, ◌≤◌, ◌*◌, ◌/◌, ◌+ℤ◌, ◌*ℤ◌, ◌≤ℤ◌, ◌<ℤ◌, List, [], ◌∷◌, All, map, sum_by}
 use Rattle.std.specs.List.{AllZip}
 use Rattle.std.specs.Int.{int_max}
 use Rattle.scan_types.specs.declared.offer.Offer.{Offer}
 use Rattle.scan_types.specs.declared.outcome.Outcome.{Outcome}
+use Rattle.scan_types.specs.declared.limits.TheConstants.{MOST_PART}
 use Rattle.settlement_definitions.specs.Gain.{slack}
-use Rattle.settlement_definitions.specs.Arbitrage.{need, total_gain, IsArbitrage, ReachesUnit}
-use Rattle.settlement_definitions.specs.Measure.{weighted_sum, mean, final_weight, IsMeasure, IsPriceMeasure}
+use Rattle.finding_definitions.specs.Arbitrage.{need, total_gain, IsArbitrage, ReachesUnit}
+use Rattle.finding_definitions.specs.Measure.{weighted_sum, mean, final_weight, IsMeasure, IsPriceMeasure}
 
 -- the most that stakes within the limits can win on average under a measure: the limits of the offers
 -- with a gain on average, each times that gain
@@ -26,8 +27,8 @@ pub record IsRightCoherent (offers : List Offer) (measure : List (Outcome × ℕ
 -- stakes within the limits win a whole minor unit: the measure weighs more than they can reach
 pub record IsRightThin (offers : List Offer) (divisor : ℕ) (parts : List ℕ) (measure : List (Outcome × ℕ)) : Type 0 where
   pub divides : 1 ≤ divisor
-  pub divisor_small : divisor < 2 ^ 60
-  pub parts_small : All (λ part. part < 2 ^ 60) parts
+  pub divisor_small : divisor ≤ MOST_PART
+  pub parts_small : All (λ part. part ≤ MOST_PART) parts
   pub within_limits : AllZip (λ offer part. part ≤ offer.limit * divisor) offers parts
   pub gains : (x : Outcome) → need x ≤ℤ total_gain offers parts x
   pub price : IsPriceMeasure measure
@@ -40,8 +41,8 @@ need_with_slack offers x = pos 1000 *ℤ need x +ℤ pos (sum_by (λ offer. slac
 -- fractional stakes win a whole unit, their floors do not, and no stakes within the limits win a unit
 -- and what rounding may cost
 pub record IsRightNarrow (offers : List Offer) (divisor : ℕ) (parts : List ℕ) (measure : List (Outcome × ℕ)) : Type 0 where
-  pub divisor_small : divisor < 2 ^ 60
-  pub parts_small : All (λ part. part < 2 ^ 60) parts
+  pub divisor_small : divisor ≤ MOST_PART
+  pub parts_small : All (λ part. part ≤ MOST_PART) parts
   pub reaches : ReachesUnit offers divisor parts
   pub floors_fail : IsArbitrage offers (map (λ part. part / divisor) parts) → ⊥
   pub measured : IsMeasure measure

@@ -1,9 +1,11 @@
-use Rattle.std.specs.Prelude.{ℕ, ℤ, pos, ◌≢◌, ◌≤◌, ◌<◌, ◌^◌, ◌+ℤ◌, ◌*ℤ◌, List, [], ◌∷◌, length, All, Any, AllPairs}
+use Rattle.std.specs.Prelude.{ℕ, ℤ, pos, ◌≢◌, ◌≤◌, ◌+ℤ◌, ◌*ℤ◌, List, [], ◌∷◌, length, All, Any, AllPairs}
 use Rattle.scan_types.specs.declared.offer.Offer.{Offer}
 use Rattle.scan_types.specs.declared.outcome.Outcome.{Outcome}
 use Rattle.scan_types.specs.declared.outcome.Outcome.TheVariants.{Full, Abandoned}
+use Rattle.scan_types.specs.declared.limits.TheConstants.{MOST_MEASURE_ENTRIES, MOST_PART}
 use Rattle.settlement_definitions.specs.Gain.{gain}
-use Rattle.settlement_definitions.specs.Arbitrage.{need}
+use Rattle.settlement_definitions.specs.Scores.{HasScoresInRange}
+use Rattle.finding_definitions.specs.Arbitrage.{need}
 
 -- the sum over a measure, each outcome by its weight
 abbrev pub weighted_sum : (Outcome → ℤ) → List (Outcome × ℕ) → ℤ
@@ -18,23 +20,18 @@ mean measure offer = weighted_sum (gain offer) measure
 abbrev pub final_weight : List (Outcome × ℕ) → ℤ
 final_weight measure = weighted_sum need measure
 
--- the goals of each side are at most 2^40
-abbrev pub HasScoresInRange : Outcome → Type 0
-HasScoresInRange (Full h a) = (h ≤ 2 ^ 40) × (a ≤ 2 ^ 40)
-HasScoresInRange (Abandoned h a) = (h ≤ 2 ^ 40) × (a ≤ 2 ^ 40)
-
 -- the match was completed
 abbrev pub IsFinal : Outcome → Type 0
 IsFinal (Full h a) = Unit {0}
 IsFinal (Abandoned h a) = ⊥
 
--- 1 to 1,024 distinct outcomes with scores at most 2^40, each with a weight from 1 to 2^60 - 1
+-- 1 to MOST_MEASURE_ENTRIES distinct outcomes with scores in range, each with a weight from 1 to MOST_PART
 pub record IsMeasure (measure : List (Outcome × ℕ)) : Type 0 where
   pub some : 1 ≤ length measure
-  pub few : length measure ≤ 1024
+  pub few : length measure ≤ MOST_MEASURE_ENTRIES
   pub distinct : AllPairs (λ e f. e.0 ≢ f.0) measure
   pub scores : All (λ e. HasScoresInRange e.0) measure
-  pub weights : All (λ e. (1 ≤ e.1) × (e.1 < 2 ^ 60)) measure
+  pub weights : All (λ e. (1 ≤ e.1) × (e.1 ≤ MOST_PART)) measure
 
 -- a measure with weight on at least one final score
 pub record IsPriceMeasure (measure : List (Outcome × ℕ)) : Type 0 where
