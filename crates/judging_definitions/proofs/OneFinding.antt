@@ -1,5 +1,5 @@
 -- A sheet with a budget has one finding.
-use Rattle.std.proofs.Common.{◌≡◌, ℕ, ◌⊎◌, inl, inr, List, refl, sym, ap, ◌∙◌, subst}
+use Rattle.std.proofs.Common.{◌≡◌, ℕ, inl, inr, List, sym, ap, ◌∙◌, subst}
 use Rattle.scan_types.specs.declared.offer.Offer.{Offer}
 use Rattle.scan_types.specs.declared.outcome.Outcome.{Outcome}
 use Rattle.settlement_definitions.specs.Classes.{classes_of}
@@ -13,12 +13,11 @@ use Rattle.finding_definitions.specs.declared.finding.Finding.{Finding}
 use Rattle.finding_definitions.specs.declared.finding.Finding.TheVariants.{Arb, Coherent, Thin, Narrow, Wide, OutOfPivots}
 use Rattle.finding_definitions.specs.declared.finding.Stage.{Stage}
 use Rattle.finding_definitions.specs.declared.finding.Stage.TheVariants.{First, Slack, Plain}
-use Rattle.finding_definitions.specs.declared.finding.WideAt.{WideAt}
 use Rattle.finding_definitions.specs.declared.finding.WideAt.TheVariants.{Entry}
 use Rattle.judging_definitions.specs.Columns.{leading_offers}
-use Rattle.judging_definitions.specs.JudgingPrograms.{homogeneous_program, limited_program, plain_need, slack_need}
-use Rattle.judging_definitions.specs.Stakes.{fractional_stakes, all_numbers, floors, AreScaledFloors}
-use Rattle.judging_definitions.specs.Readings.{HasLevelOne, Reading, Reads, ReadsWide, MeasureReads, DirectionReads, PartsRead}
+use Rattle.judging_definitions.specs.JudgingPrograms.{limited_program, plain_need, slack_need}
+use Rattle.judging_definitions.specs.Stakes.{fractional_stakes, all_numbers, floors}
+use Rattle.judging_definitions.specs.Readings.{Reading, Reads, ReadsWide, MeasureReads, DirectionReads, PartsRead}
 use Rattle.judging_definitions.specs.ExactFinding.{IsWideRun, IsSpentRun, AfterRun, AfterReading, Either, IsFoundWithinLimits, IsFoundByPlainRun, IsFoundBySlackRun, IsFoundInDirection, IsExactFinding}
 use Rattle.judging_definitions.proofs.OneReading.{measure_reads_one, direction_reads_one, parts_read_one, scaled_floors_one}
 
@@ -76,19 +75,19 @@ within_limits_one : (offers : List Offer) (pivots : ℕ) (end : SimplexTableau) 
 within_limits_one offers pivots end q finding other =
     let stakes = fractional_stakes (classes_of offers) offers (all_numbers offers) end in
     either _ _ _ _ _ finding other (both finding other (Arb (floors stakes)))
-      (after_reading (PartsRead stakes) Plain pivots (λ parts. finding ≡ Narrow parts q) (λ parts. other ≡ Narrow parts q) finding other (parts_read_one stakes) (λ parts. both finding other (Narrow parts q)))
+    (after_reading (PartsRead stakes) Plain pivots (λ parts. finding ≡ Narrow parts q) (λ parts. other ≡ Narrow parts q) finding other (parts_read_one stakes) (λ parts. both finding other (Narrow parts q)))
 
 plain_run_one : (offers : List Offer) (budget : ℕ) (direction : Fractions) (q : List (Outcome × ℕ)) (finding other : Finding) → IsFoundByPlainRun offers budget direction q finding → IsFoundByPlainRun offers budget direction q other → finding ≡ other
 plain_run_one offers budget direction q finding other =
     after_run (limited_program (classes_of offers) offers plain_need) budget Plain _ _ finding other (λ pivots end. either _ _ _ _ _ finding other
-      (within_limits_one offers pivots end q finding other)
-      (after_reading (MeasureReads (classes_of offers) end) Plain pivots (λ m. finding ≡ Thin direction m) (λ m. other ≡ Thin direction m) finding other (measure_reads_one (classes_of offers) end) (λ m. both finding other (Thin direction m))))
+    (within_limits_one offers pivots end q finding other)
+    (after_reading (MeasureReads (classes_of offers) end) Plain pivots (λ m. finding ≡ Thin direction m) (λ m. other ≡ Thin direction m) finding other (measure_reads_one (classes_of offers) end) (λ m. both finding other (Thin direction m))))
 
 slack_run_one : (offers : List Offer) (budget : ℕ) (direction : Fractions) (finding other : Finding) → IsFoundBySlackRun offers budget direction finding → IsFoundBySlackRun offers budget direction other → finding ≡ other
 slack_run_one offers budget direction finding other =
     after_run (limited_program (classes_of offers) offers (slack_need offers)) budget Slack _ _ finding other (λ pivots end. either _ _ _ _ _ finding other
-      (both finding other (Arb (floors (fractional_stakes (classes_of offers) offers (all_numbers offers) end))))
-      (after_reading (MeasureReads (classes_of offers) end) Slack pivots (λ m. IsFoundByPlainRun offers budget direction m finding) (λ m. IsFoundByPlainRun offers budget direction m other) finding other (measure_reads_one (classes_of offers) end) (λ m. plain_run_one offers budget direction m finding other)))
+    (both finding other (Arb (floors (fractional_stakes (classes_of offers) offers (all_numbers offers) end))))
+    (after_reading (MeasureReads (classes_of offers) end) Slack pivots (λ m. IsFoundByPlainRun offers budget direction m finding) (λ m. IsFoundByPlainRun offers budget direction m other) finding other (measure_reads_one (classes_of offers) end) (λ m. plain_run_one offers budget direction m finding other)))
 
 direction_one : (offers : List Offer) (budget : ℕ) (direction : Fractions) (finding other : Finding) → IsFoundInDirection offers budget direction finding → IsFoundInDirection offers budget direction other → finding ≡ other
 direction_one offers budget direction finding other first second =
@@ -101,5 +100,5 @@ exact_finding_one offers budget finding other =
     let classes = classes_of offers in
     let leading = leading_offers offers classes in
     after_run _ budget First _ _ finding other (λ pivots end. either _ _ _ _ _ finding other
-      (after_reading (DirectionReads offers _) First pivots (λ d. IsFoundInDirection offers budget d finding) (λ d. IsFoundInDirection offers budget d other) finding other (direction_reads_one offers _) (λ d. direction_one offers budget d finding other))
-      (after_reading (MeasureReads classes end) First pivots (λ m. finding ≡ Coherent m) (λ m. other ≡ Coherent m) finding other (measure_reads_one classes end) (λ m. both finding other (Coherent m))))
+    (after_reading (DirectionReads offers _) First pivots (λ d. IsFoundInDirection offers budget d finding) (λ d. IsFoundInDirection offers budget d other) finding other (direction_reads_one offers _) (λ d. direction_one offers budget d finding other))
+    (after_reading (MeasureReads classes end) First pivots (λ m. finding ≡ Coherent m) (λ m. other ≡ Coherent m) finding other (measure_reads_one classes end) (λ m. both finding other (Coherent m))))

@@ -1,9 +1,9 @@
 -- A reading of a tableau gives one value.
-use Rattle.std.proofs.Common.{◌≡◌, ℕ, zero, suc, ◌+◌, ◌*◌, ◌/◌, ◌<◌, ◌≤◌, ◌⊎◌, inl, inr, List, [], ◌∷◌, length, take, map, refl, sym, ap, ap₂, ◌∙◌, subst, arith}
-use Rattle.std.specs.Prelude.{slice_index, zip, Contains}
-use Rattle.std.specs.List.{All, AllZip}
+use Rattle.std.proofs.Common.{◌≡◌, ℕ, zero, suc, ◌*◌, ◌/◌, ◌<◌, ◌≤◌, inl, inr, List, [], ◌∷◌, take, map, refl, sym, ap, ap₂, ◌∙◌, subst, arith}
+use Rattle.std.specs.Prelude.{zip, Contains}
+use Rattle.std.specs.List.{AllZip}
 use Rattle.std.proofs.lemmas.Bool.{cases_order}
-use Rattle.std.proofs.lemmas.List.Elements.{All-take, All-get_or}
+use Rattle.std.proofs.lemmas.List.Elements.{All-take}
 use Rattle.std.proofs.lemmas.Nat.{le-div}
 use Rattle.std.proofs.Math.Nat.{div-mul-le_self, le_of_mul-le-mul_left, mul-le-mul_right}
 use Rattle.std.specs.Int.{◌∣◌}
@@ -12,11 +12,10 @@ use Rattle.scan_types.specs.declared.offer.Offer.{Offer}
 use Rattle.scan_types.specs.declared.outcome.Outcome.{Outcome}
 use Rattle.pivot_definitions.specs.Tableaus.{SimplexTableau}
 use Rattle.finding_definitions.specs.Fractions.{Fractions}
-use Rattle.finding_definitions.specs.declared.finding.WideAt.{WideAt}
 use Rattle.finding_definitions.specs.declared.finding.WideAt.TheVariants.{Entry, Weight, Stake}
 use Rattle.judging_definitions.specs.declared.limits.TheConstants.{MOST_COMMON_DENOMINATOR}
-use Rattle.judging_definitions.specs.Stakes.{Fraction, MakesWhole, IsCommonDenominator, multiples, in_lowest_terms, IsFittingDivisor, AreScaledFloors}
-use Rattle.judging_definitions.specs.Readings.{FirstAbove, NoneAbove, Reading, Reads, ReadsWide, class_weights, weighted_classes, MeasureReads, IsSmallDenominator, FirstWideDenominator, FirstWideStake, IsDirection, DirectionReads, AreParts, PartsRead}
+use Rattle.judging_definitions.specs.Stakes.{Fraction, IsCommonDenominator, multiples, in_lowest_terms, IsFittingDivisor, AreScaledFloors}
+use Rattle.judging_definitions.specs.Readings.{FirstAbove, NoneAbove, Reading, Reads, ReadsWide, class_weights, MeasureReads, IsSmallDenominator, FirstWideDenominator, FirstWideStake, IsDirection, DirectionReads, AreParts, PartsRead}
 
 by_order : {P : Type 0} (a b : ℕ) → (a ≡ b → P) → (a < b → P) → (b < a → P) → P
 by_order a b same less more = elim (cases_order a b) [ inl e ↦ same e | inr h ↦ elim h [ inl x ↦ less x | inr y ↦ more y ] ]

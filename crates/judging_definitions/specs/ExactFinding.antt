@@ -56,25 +56,25 @@ abbrev pub IsFoundWithinLimits : List Offer → ℕ → SimplexTableau → List 
 IsFoundWithinLimits offers pivots end slack_measure finding =
     let stakes = fractional_stakes (classes_of offers) offers (all_numbers offers) end in
     Either (IsArbitrage offers (floors stakes)) (finding ≡ Arb (floors stakes))
-      (AfterReading (PartsRead stakes) Plain pivots (λ parts. finding ≡ Narrow parts slack_measure) finding)
+    (AfterReading (PartsRead stakes) Plain pivots (λ parts. finding ≡ Narrow parts slack_measure) finding)
 
 -- step 5: the program with limits and no slack, for stakes that win one minor unit
 abbrev pub IsFoundByPlainRun : List Offer → ℕ → Fractions → List (Outcome × ℕ) → Finding → Type 0
 IsFoundByPlainRun offers budget direction slack_measure finding =
     AfterRun (limited_program (classes_of offers) offers plain_need) budget Plain
-      (λ pivots end. Either (HasLevelOne end)
-        (IsFoundWithinLimits offers pivots end slack_measure finding)
-        (AfterReading (MeasureReads (classes_of offers) end) Plain pivots (λ measure. finding ≡ Thin direction measure) finding))
-      finding
+    (λ pivots end. Either (HasLevelOne end)
+    (IsFoundWithinLimits offers pivots end slack_measure finding)
+    (AfterReading (MeasureReads (classes_of offers) end) Plain pivots (λ measure. finding ≡ Thin direction measure) finding))
+    finding
 
 -- step 4: the program with limits and slack, for stakes that win one minor unit also after rounding
 abbrev pub IsFoundBySlackRun : List Offer → ℕ → Fractions → Finding → Type 0
 IsFoundBySlackRun offers budget direction finding =
     AfterRun (limited_program (classes_of offers) offers (slack_need offers)) budget Slack
-      (λ pivots end. Either (HasLevelOne end)
-        (finding ≡ Arb (floors (fractional_stakes (classes_of offers) offers (all_numbers offers) end)))
-        (AfterReading (MeasureReads (classes_of offers) end) Slack pivots (λ measure. IsFoundByPlainRun offers budget direction measure finding) finding))
-      finding
+    (λ pivots end. Either (HasLevelOne end)
+    (finding ≡ Arb (floors (fractional_stakes (classes_of offers) offers (all_numbers offers) end)))
+    (AfterReading (MeasureReads (classes_of offers) end) Slack pivots (λ measure. IsFoundByPlainRun offers budget direction measure finding) finding))
+    finding
 
 -- step 3: stakes in the direction, as large as the limits let them be, if they are an arbitrage
 abbrev pub IsFoundInDirection : List Offer → ℕ → Fractions → Finding → Type 0
@@ -87,10 +87,10 @@ IsExactFinding offers budget finding =
     let classes = classes_of offers in
     let leading = leading_offers offers classes in
     AfterRun (homogeneous_program classes (map (λ offer. offer.1) leading)) budget First
-      (λ pivots end. Either (HasLevelOne end)
-        (AfterReading (DirectionReads offers (fractional_stakes classes offers (map (λ offer. offer.0) leading) end)) First pivots (λ direction. IsFoundInDirection offers budget direction finding) finding)
-        (AfterReading (MeasureReads classes end) First pivots (λ measure. finding ≡ Coherent measure) finding))
-      finding
+    (λ pivots end. Either (HasLevelOne end)
+    (AfterReading (DirectionReads offers (fractional_stakes classes offers (map (λ offer. offer.0) leading) end)) First pivots (λ direction. IsFoundInDirection offers budget direction finding) finding)
+    (AfterReading (MeasureReads classes end) First pivots (λ measure. finding ≡ Coherent measure) finding))
+    finding
 
 -- the finding of a sheet with a budget of pivots for each run
 abbrev pub IsFindingOf : List Offer → ℕ → Finding → Type 0

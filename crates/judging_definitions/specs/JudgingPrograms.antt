@@ -1,5 +1,5 @@
 -- The two linear programs of a sheet. Column 0 is the level; each further column is the stake of an offer, times the offer's divisor.
-use Rattle.std.specs.Prelude.{ℕ, suc, ◌+◌, ◌*◌, List, [], ◌∷◌, ◌++◌, length, map, ℤ, pos, neg_ℤ, ◌*ℤ◌}
+use Rattle.std.specs.Prelude.{suc, ◌+◌, ◌*◌, List, [], ◌∷◌, ◌++◌, length, map, ℤ, pos, neg_ℤ, ◌*ℤ◌}
 use Rattle.std.specs.List.{flat_map, range_with_len}
 use Rattle.pivot_definitions.specs.Programs.{LinearProgram, unit_row}
 use Rattle.scan_types.specs.declared.offer.Offer.{Offer}

@@ -1,5 +1,5 @@
 -- The fractional stakes of a tableau's basic solution, and what is made of them.
-use Rattle.std.specs.Prelude.{◌≡◌, ℕ, suc, ◌*◌, ◌/◌, ◌^◌, ◌<◌, ◌≤◌, ◌==◌, Option, None, Some, List, map, zip, take, length, Contains, pos, unsigned_abs}
+use Rattle.std.specs.Prelude.{◌≡◌, ℕ, suc, ◌*◌, ◌/◌, ◌≤◌, ◌==◌, Option, None, Some, List, map, zip, length, Contains, pos, unsigned_abs}
 use Rattle.std.specs.Int.{◌∣◌}
 use Rattle.std.specs.List.{All, AllZip, enumerate_from, range_with_len, position}
 use Rattle.row_definitions.specs.Rows.{primitive_row}
