@@ -7,8 +7,8 @@ use Rattle.scan_types.specs.declared.outcome.Outcome.TheVariants.{Full, Abandone
 use Rattle.settlement_definitions.specs.Gain.{gain, net}
 use Rattle.finding_definitions.specs.Arbitrage.{need, sum_over, total_net, total_gain}
 use Rattle.settlement_definitions.specs.StandIns.{stand_for, stand_ins}
-use Rattle.settle_classes.proofs.Cover.{gain-stand_for}
-use Rattle.settle_classes.proofs.Table.{each_has_stand_in}
+use Rattle.settlement_laws.proofs.Cover.{gain-stand_for}
+use Rattle.settlement_laws.proofs.Table.{each_has_stand_in}
 
 -- sums of equal terms are equal
 pub sum_over-same : (f g : Offer → ℕ → ℤ) → ((offer : Offer) (n : ℕ) → f offer n ≡ g offer n) → (offers : List Offer) (numbers : List ℕ) → sum_over f offers numbers ≡ sum_over g offers numbers

@@ -10,9 +10,9 @@ use Rattle.scan_types.specs.declared.outcome.Outcome.{Outcome}
 use Rattle.settlement_definitions.specs.Gain.{gain}
 use Rattle.settlement_definitions.specs.StandIns.{is_final, stand_for, stand_ins}
 use Rattle.settlement_definitions.specs.Classes.{SettleAlike, same_bool, settle_alike, classes_of}
-use Rattle.settle_classes.proofs.Cover.{gain-stand_for, is_final-stand_for}
-use Rattle.settle_classes.proofs.Distinct.{distinct_by-each}
-use Rattle.settle_classes.proofs.Table.{each_has_stand_in}
+use Rattle.settlement_laws.proofs.Cover.{gain-stand_for, is_final-stand_for}
+use Rattle.settlement_laws.proofs.Distinct.{distinct_by-each}
+use Rattle.settlement_laws.proofs.Table.{each_has_stand_in}
 
 Decides-same_bool : (a b : Bool) → Decides (same_bool a b) (a ≡ b)
 Decides-same_bool true true = (λ _. refl, λ _. refl)
