@@ -1,6 +1,6 @@
 -- The matches of a board are those of its feeds.
 use Rattle.std.proofs.Common.{ℕ, ◌≡◌, ◌+◌, ◌*◌, ◌/◌, ◌%◌, ◌<◌, ◌≤◌, List, [], ◌∷◌, true, Some, None, refl, sym, ap, subst, ◌∙◌, inl, inr, length, get_or, arith, map, zero, suc}
-use Rattle.std.specs.Prelude.{Option, All, Any, Contains, IfSome, IsSome, IsSomeAnd, is_some, reverse, find, slice_get, slice_index_or, ◌==◌}
+use Rattle.std.specs.Prelude.{Option, option_map, All, Any, Contains, IfSome, IsSome, IsSomeAnd, is_some, reverse, find, slice_get, slice_index_or, ◌==◌}
 use Rattle.std.specs.Option.{option_map_or}
 use Rattle.std.specs.List.{AllZip}
 use Rattle.std.specs.BTreeMap.{BTreeMap, get, keys, is_at, IsOrdered}

@@ -6,24 +6,14 @@ use Rattle.std.specs.Ordering.{nat_cmp}
 use Rattle.std.specs.declared.cmp.Ordering.TheVariants as ordering
 use Rattle.scan_types.specs.declared.limits.TheConstants.{DEFAULT_PIVOTS}
 use Rattle.scan_types.specs.declared.offer.Offer.{Offer}
-use Rattle.scan_types.specs.declared.outcome.Outcome.{Outcome}
 use Rattle.feed_definitions.specs.Standing.{IsSheetOf}
+use Rattle.finding_definitions.specs.Text.{stake_fields, measure_fields}
 use Rattle.result_verdict.specs.Findings.{IsFirstFinding, IsRightFirst}
 use Rattle.result_verdict.specs.declared.First.{First}
 use Rattle.result_verdict.specs.declared.First.TheVariants.{Arb, Coherent, Unsettled1}
 use Rattle.report_definitions.specs.declared.match_part.MatchPart.{MatchPart}
 use Rattle.report_definitions.specs.Standing.{FeedPart, rules_of, lines_of, IsQuoted}
-use Rattle.report_definitions.specs.Words.{line_of, odds_text, selection_fields, rule_text, outcome_fields}
-
--- a list with its length before it
-abbrev pub counted : {A : Type 0} → (A → List (List ℕ)) → List A → List (List ℕ)
-counted fields items = decimal (length items) ∷ flat_map fields items
-
-abbrev pub stake_fields : List ℕ → List (List ℕ)
-stake_fields stakes = counted (λ stake. decimal stake ∷ []) stakes
-
-abbrev pub measure_fields : List (Outcome × ℕ) → List (List ℕ)
-measure_fields weights = counted (λ weight. outcome_fields weight.0 ++ decimal weight.1 ∷ []) weights
+use Rattle.report_definitions.specs.Words.{line_of, odds_text, selection_fields, rule_text}
 
 abbrev pub finding_fields : First → List (List ℕ)
 finding_fields (Arb stakes) = codes "arb" ∷ stake_fields stakes

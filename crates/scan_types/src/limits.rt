@@ -26,7 +26,7 @@ pub const MOST_STANDING: usize = 32;
 pub const MOST_OFFERS: usize = 256;
 
 /// Different selections: 3 results, twice 41 handicap lines and twice 29 total lines.
-pub const SELECTIONS: u8 = 143;
+pub const MOST_SELECTIONS: usize = 143;
 
 /// The least odds, in thousandths: a winning bet returns more than its stake.
 pub const LEAST_ODDS: u32 = 1_001;
@@ -40,12 +40,11 @@ pub const MOST_LIMIT: u32 = 100_000_000;
 /// The largest score of one side in a settlement call or a measure, 2^40: sums of goals in quarters fit 64 bits.
 pub const MOST_SCORE: u64 = 1_099_511_627_776;
 
-/// Entries of a measure, from 1 on.
+/// Entries of a measure, from 1 on: one for each row that a program can have, and more.
 pub const MOST_MEASURE_ENTRIES: usize = 1_024;
 
-/// The largest weight of a measure, and the largest part and divisor of fractional stakes, 2^60 - 1: with it the sums
-/// over a whole sheet and a whole measure stay below 2^127.
-pub const MOST_WEIGHT: u64 = 1_152_921_504_606_846_975;
+/// The largest part, divisor and weight of a certificate, 2^60 - 1: no sum over a sheet and a measure leaves 127 bits.
+pub const MOST_PART: u64 = 1_152_921_504_606_846_975;
 
 /// Pivots that one run of a program may take, from 1 on.
 pub const MOST_PIVOTS: u32 = 65_536;

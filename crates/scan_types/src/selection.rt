@@ -1,8 +1,8 @@
-use crate::limits::SELECTIONS;
+use crate::limits::MOST_SELECTIONS;
 use crate::line::{HandicapLine, TotalLine};
 
 /// What a bet backs. Handicap lines are seen from the home side, for the away bet too.
-#[derive(Clone, Copy, Debug, PartialEq, Eq, Hash)]
+#[derive(Clone, Copy, Debug, PartialEq, Eq, PartialOrd, Ord, Hash)]
 pub enum Selection {
     /// The home side has more goals.
     Home,
@@ -28,7 +28,7 @@ impl Selection {
     /// and within a variant the line rising.
     pub fn number(self) -> u8
         ensures value { result ≡ selection_number self }
-        ensures bound { result < SELECTIONS }
+        ensures bound { result < MOST_SELECTIONS }
     {
         match self {
             Selection::Home => 0,

@@ -5,7 +5,7 @@ ghost use Rattle.std.specs.Prelude.{◌≡◌, ◌≤◌, ◌*◌, ◌^◌, ◌�
 ghost use Rattle.settlement_definitions.specs.Abandonment.{leg_at, leg_at_abandonment};
 ghost use Rattle.settlement_definitions.specs.Decided.{exceeds_line};
 ghost use Rattle.settlement_definitions.specs.Gain.{gain, leg_gain, paid, slack};
-ghost use Rattle.settlement_definitions.specs.Measure.{HasScoresInRange};
+ghost use Rattle.settlement_definitions.specs.Scores.{HasScoresInRange};
 
 use market_rules::{LegResult, leg_result};
 use quarter_lines::{legs, line_of};
