@@ -6,3 +6,4 @@ pub mod Alike
 pub mod AlikeSums
 pub mod FiveGains
 pub mod CanLose
+pub mod Roundings

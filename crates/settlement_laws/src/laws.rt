@@ -1,5 +1,5 @@
 ghost use Rattle.settlement_laws.specs.Laws.{StandInSettlesAlike, EachHasStandIn, NetAtEachOutcome, GainAtEachOutcome, EachHasClass};
-ghost use Rattle.settlement_laws.specs.Laws.{NinetyEightStandIns, FiveGains, EachBetCanLose};
+ghost use Rattle.settlement_laws.specs.Laws.{NinetyEightStandIns, FiveGains, EachBetCanLose, SlackCoversRounding};
 ghost use Rattle.settlement_laws.specs.Laws.{EqualNeeds, EqualNets, EqualGains, EqualSlacks, NetFromClasses, GainFromClasses, SlackFromClasses};
 
 /// A stand-in is of the kind of each outcome that it stands for, and gives each offer the same gain.
@@ -50,4 +50,9 @@ pub fn a_bet_gains_one_of_five_amounts()
 /// Every bet loses its whole stake at some final score.
 pub fn each_bet_can_lose()
     ensures { EachBetCanLose }
+{}
+
+/// What slack is for: a fractional stake that is cut down to whole minor units wins at most its slack less.
+pub fn slack_covers_rounding()
+    ensures { SlackCoversRounding }
 {}
