@@ -1,5 +1,5 @@
 -- The two legs of a bet never go opposite ways, so a bet gains one of five amounts.
-use Rattle.std.proofs.Common.{ℕ, ℤ, pos, negsuc, zero, suc, ◌≡◌, ◌<◌, ◌+◌, ◌*◌, ◌/◌, ◌%◌, ◌+ℤ◌, ◌-ℤ◌, ◌*ℤ◌, ◌≤ℤ◌, ◌<ℤ◌, neg_ℤ, true, false, Bool, refl, sym, ap, subst, ◌∙◌, inl, inr, arith}
+use Rattle.std.proofs.Common.{ℕ, ℤ, pos, negsuc, zero, suc, ◌≡◌, ◌+◌, ◌*◌, ◌/◌, ◌%◌, ◌+ℤ◌, ◌-ℤ◌, ◌*ℤ◌, ◌<ℤ◌, neg_ℤ, true, false, Bool, refl, sym, subst, inl, inr, arith}
 use Rattle.std.specs.Prelude.{◌⊎◌, ◌==◌, int_lt, unsigned_abs, if◌then◌else◌}
 use Rattle.std.proofs.lemmas.Int.{ints}
 use Rattle.std.proofs.lemmas.Bool.Decides.{nat_tests}
@@ -12,10 +12,10 @@ use Rattle.scan_types.specs.declared.outcome.Outcome.{Outcome}
 use Rattle.scan_types.specs.declared.outcome.Outcome.TheVariants.{Full, Abandoned}
 use Rattle.settlement_definitions.specs.declared.leg_result.LegResult.{LegResult}
 use Rattle.settlement_definitions.specs.declared.leg_result.LegResult.TheVariants.{Win, Push, Lose}
-use Rattle.settlement_definitions.specs.Legs.{legs_of, legs_of_line, by_sign, win_if, lead, excess, leg_result}
+use Rattle.settlement_definitions.specs.Legs.{legs_of, legs_of_line, by_sign, lead, excess, leg_result}
 use Rattle.settlement_definitions.specs.LegSigns.{by_sign-above, by_sign-below}
 use Rattle.settlement_definitions.specs.Decided.{exceeds_line}
-use Rattle.settlement_definitions.specs.Abandonment.{leg_at, decision, decided_result}
+use Rattle.settlement_definitions.specs.Abandonment.{leg_at}
 use Rattle.settlement_definitions.specs.Gain.{gain, leg_gain}
 use Rattle.settlement_definitions.proofs.DecidedLemmas.{decided_result-by_goals}
 

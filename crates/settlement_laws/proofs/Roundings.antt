@@ -1,5 +1,5 @@
 -- A stake that is cut down to whole minor units wins at most its slack less.
-use Rattle.std.proofs.Common.{ℕ, ℤ, pos, negsuc, zero, suc, ◌≡◌, ◌<◌, ◌≤◌, ◌+◌, ◌-◌, ◌*◌, ◌/◌, ◌+ℤ◌, ◌-ℤ◌, ◌*ℤ◌, ◌≤ℤ◌, refl, sym, subst, ap, ◌∙◌, inl, inr, arith}
+use Rattle.std.proofs.Common.{ℕ, ℤ, pos, negsuc, zero, suc, ◌≡◌, ◌<◌, ◌≤◌, ◌+◌, ◌-◌, ◌*◌, ◌/◌, ◌+ℤ◌, ◌-ℤ◌, ◌*ℤ◌, ◌≤ℤ◌, sym, subst, ap, ◌∙◌, inl, inr, arith}
 use Rattle.std.specs.Prelude.{◌⊎◌, unsigned_abs}
 use Rattle.std.proofs.lemmas.Int.{ints}
 use Rattle.std.proofs.Math.Nat.{mul-div-le, lt-mul-div-succ, mul-le-mul_left, mul-le-mul_right, mul-add, add-mul, mul_assoc}
@@ -60,7 +60,7 @@ won odds d part s p k cut paid most =
     let most_times : d * (k + 2000) ≤ d * (2 * odds) = mul-le-mul_left d most in
     let most_left : d * (k + 2000) ≡ d * k + d * 2000 = mul-add d k 2000 in
     let whole : part * k + 2000 * (d * s) ≤ 2000 * (d * p) + 2 * (d * odds) =
-        omega (arith, cut_times, cut_left, cut_right, paid_times, paid_left, paid_split, paid_right, most_times, most_left) in
+    omega (arith, cut_times, cut_left, cut_right, paid_times, paid_left, paid_split, paid_right, most_times, most_left) in
     by_parts d part s p odds (pos k) (omega (arith, ints, whole, a, b, c))
 
 -- for each of the five amounts

@@ -1,12 +1,12 @@
-use Rattle.std.specs.Prelude.{ℕ, pos, negsuc, ◌≡◌, ◌≤◌, ◌*◌, ◌/◌, ◌+ℤ◌, ◌-ℤ◌, ◌*ℤ◌, ◌≤ℤ◌, ◌⊎◌, List, length, map, All, Contains}
+use Rattle.std.specs.Prelude.{ℕ, pos, negsuc, ◌≡◌, ◌≤◌, ◌*◌, ◌/◌, ◌+ℤ◌, ◌-ℤ◌, ◌*ℤ◌, ◌≤ℤ◌, ◌⊎◌, List, length, All, Contains}
 use Rattle.scan_types.specs.declared.offer.Offer.{Offer}
 use Rattle.scan_types.specs.declared.outcome.Outcome.{Outcome}
 use Rattle.scan_types.specs.declared.outcome.Outcome.TheVariants.{Full}
 use Rattle.settlement_definitions.specs.Gain.{gain, net, slack}
 use Rattle.settlement_definitions.specs.StandIns.{is_final, stand_for, stand_ins}
 use Rattle.settlement_definitions.specs.Classes.{SettleAlike, classes_of}
-use Rattle.finding_definitions.specs.Arbitrage.{need, total_net, total_gain, IsArbitrage}
-use Rattle.finding_definitions.specs.Verdicts.{need_with_slack, ReachesSlack}
+use Rattle.finding_definitions.specs.Arbitrage.{need, total_net, total_gain}
+use Rattle.finding_definitions.specs.Verdicts.{need_with_slack}
 
 -- a stand-in is of the kind of each outcome that it stands for, and gives each offer the same gain
 abbrev pub StandInSettlesAlike : Type 0
@@ -87,8 +87,3 @@ abbrev pub SlackCoversRounding : Type 0
 SlackCoversRounding =
     (offer : Offer) (x : Outcome) (divisor part : ℕ) → 1 ≤ divisor →
     (pos part *ℤ gain offer x) ≤ℤ (pos (2000 * divisor) *ℤ net offer (part / divisor) x +ℤ pos (2 * divisor * slack offer x))
-
--- fractional stakes that win what is needed and their slack are an arbitrage once they are cut down to whole minor units
-abbrev pub FloorsOfSlackWin : Type 0
-FloorsOfSlackWin =
-    (offers : List Offer) (divisor : ℕ) (parts : List ℕ) → ReachesSlack offers divisor parts → IsArbitrage offers (map (λ part. part / divisor) parts)
