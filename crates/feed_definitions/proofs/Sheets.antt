@@ -1,5 +1,5 @@
 -- A match has one sheet.
-use Rattle.std.proofs.Common.{◌≡◌, ℕ, List, Some, arith, refl, sym, ◌∙◌, ap, subst, inl, inr}
+use Rattle.std.proofs.Common.{◌≡◌, ℕ, List, arith, refl, sym, ◌∙◌, ap, subst, inl, inr}
 use Rattle.std.specs.Prelude.{Option, IsSome}
 use Rattle.std.proofs.lemmas.Option.{same_Some, some_pair_parts}
 use Rattle.scan_types.specs.declared.rule.VoidRule.{VoidRule}

@@ -1,6 +1,6 @@
 -- What stands of each match after some accepted lines of each feed. The lines and the rule of each feed are given by its number: a
 -- report takes them from the feeds that were read, a board from its history.
-use Rattle.std.specs.Prelude.{ℕ, ◌≡◌, Bool, ◌==◌, ◌&&◌, IsTrue, List, reverse, find, Option, Some, None, option_and_then, All, Any, Contains, IsSome}
+use Rattle.std.specs.Prelude.{ℕ, ◌≡◌, Bool, ◌==◌, ◌&&◌, IsTrue, List, reverse, find, Option, Some, None, option_and_then, All, Any, IsSome}
 use Rattle.std.specs.Str.{bytes_eq}
 use Rattle.scan_types.specs.declared.selection.Selection.{Selection}
 use Rattle.scan_types.specs.declared.offer.Offer.{Offer}
