@@ -8,9 +8,8 @@ use Rattle.std.proofs.lemmas.List.Folds.{Any-from_list_any}
 use Rattle.scan_types.specs.declared.offer.Offer.{Offer}
 use Rattle.scan_types.specs.declared.outcome.Outcome.{Outcome}
 use Rattle.settlement_definitions.specs.Gain.{gain}
-use Rattle.settle_classes.specs.StandIns.{is_final, stand_for, stand_ins}
-use Rattle.settle_classes.specs.Classes.{same_bool, settle_alike, classes_of}
-use Rattle.settle_classes.specs.Laws.{SettleAlike}
+use Rattle.settlement_definitions.specs.StandIns.{is_final, stand_for, stand_ins}
+use Rattle.settlement_definitions.specs.Classes.{SettleAlike, same_bool, settle_alike, classes_of}
 use Rattle.settle_classes.proofs.Cover.{gain-stand_for, is_final-stand_for}
 use Rattle.settle_classes.proofs.Distinct.{distinct_by-each}
 use Rattle.settle_classes.proofs.Table.{each_has_stand_in}

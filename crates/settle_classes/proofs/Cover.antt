@@ -17,7 +17,7 @@ use Rattle.settlement_definitions.specs.Decided.{exceeds_line}
 use Rattle.settlement_definitions.specs.Abandonment.{leg_at}
 use Rattle.settlement_definitions.specs.Gain.{gain, leg_gain}
 use Rattle.settlement_definitions.proofs.DecidedLemmas.{decided_result-by_goals}
-use Rattle.settle_classes.specs.StandIns.{stand_for, stand_score, lead_step, high_home, high_away, is_final}
+use Rattle.settlement_definitions.specs.StandIns.{stand_for, stand_score, lead_step, high_home, high_away, is_final}
 
 -- a leg within the lines that books offer: handicaps to five goals, totals to seven and a half
 abbrev IsOffered : Selection → ℤ → Type 0

@@ -3,7 +3,7 @@ use Rattle.std.specs.Prelude.{filter}
 use Rattle.std.specs.List.{list_any}
 use Rattle.std.proofs.lemmas.List.{append-nil}
 use Rattle.std.proofs.lemmas.List.Elements.{filter-append}
-use Rattle.settle_classes.specs.Classes.{distinct_by}
+use Rattle.settlement_definitions.specs.Classes.{distinct_by}
 
 list_any-filter_step : {X : Type 0} (p q : X → Bool) (x : X) (xs : List X) → (q x ≡ true → p x ≡ true) → list_any q (filter p xs) ≡ list_any q xs → (b c : Bool) → p x ≡ b → q x ≡ c → list_any q (cond (p x) (x ∷ filter p xs) (filter p xs)) ≡ (q x || list_any q xs)
 list_any-filter_step p q x xs kept rest true c e f =

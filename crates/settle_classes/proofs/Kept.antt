@@ -10,8 +10,8 @@ use Rattle.scan_types.specs.declared.offer.Offer.{Offer}
 use Rattle.scan_types.specs.declared.outcome.Outcome.{Outcome}
 use Rattle.settlement_definitions.specs.Gain.{gain}
 use Rattle.settle_classes.specs.declared.row.Row.{Row}
-use Rattle.settle_classes.specs.StandIns.{is_final, stand_ins}
-use Rattle.settle_classes.specs.Classes.{same_bool, settle_alike, distinct_by}
+use Rattle.settlement_definitions.specs.StandIns.{is_final, stand_ins}
+use Rattle.settlement_definitions.specs.Classes.{same_bool, settle_alike, distinct_by}
 use Rattle.settle_classes.specs.Rows.{parts_of, settlement_of, same_settlement}
 use Rattle.settle_classes.proofs.Alike.{settle_alike-trans}
 use Rattle.settle_classes.proofs.Distinct.{distinct_by-push}

@@ -6,7 +6,7 @@ use Rattle.scan_types.specs.declared.outcome.Outcome.{Outcome}
 use Rattle.scan_types.specs.declared.outcome.Outcome.TheVariants.{Full, Abandoned}
 use Rattle.settlement_definitions.specs.Gain.{gain, net}
 use Rattle.finding_definitions.specs.Arbitrage.{need, sum_over, total_net, total_gain}
-use Rattle.settle_classes.specs.StandIns.{stand_for, stand_ins}
+use Rattle.settlement_definitions.specs.StandIns.{stand_for, stand_ins}
 use Rattle.settle_classes.proofs.Cover.{gain-stand_for}
 use Rattle.settle_classes.proofs.Table.{each_has_stand_in}
 

@@ -11,7 +11,7 @@ use Rattle.std.proofs.lemmas.Bool.Decides.{Decides-and, Decides-by_and}
 use Rattle.std.proofs.lemmas.Option.{slice_get-get_or, slice_get_within, get_or_from_slice_get}
 use Rattle.scan_types.specs.declared.outcome.Outcome.{Outcome}
 use Rattle.scan_types.specs.declared.outcome.Outcome.TheVariants.{Full, Abandoned}
-use Rattle.settle_classes.specs.StandIns.{stand_scores, stand_ins, stand_for, stand_score, lead_step, high_home, high_away}
+use Rattle.settlement_definitions.specs.StandIns.{stand_scores, stand_ins, stand_for, stand_score, lead_step, high_home, high_away}
 
 pub slice_get-append_left : {X : Type 0} (xs ys : List X) (k : ℕ) (x : X) → slice_get xs k ≡ Some x → slice_get (xs ++ ys) k ≡ Some x
 slice_get-append_left [] ys k x h = cc

@@ -3,13 +3,8 @@ use Rattle.scan_types.specs.declared.offer.Offer.{Offer}
 use Rattle.scan_types.specs.declared.outcome.Outcome.{Outcome}
 use Rattle.settlement_definitions.specs.Gain.{gain}
 use Rattle.finding_definitions.specs.Arbitrage.{need, total_net, total_gain}
-use Rattle.settle_classes.specs.StandIns.{is_final, stand_for, stand_ins}
-use Rattle.settle_classes.specs.Classes.{classes_of}
-
--- two outcomes are of the same kind and give each offer the same gain
-pub record SettleAlike (offers : List Offer) (x y : Outcome) : Type 0 where
-  pub kind : is_final x ≡ is_final y
-  pub gains : All (λ offer. gain offer x ≡ gain offer y) offers
+use Rattle.settlement_definitions.specs.StandIns.{is_final, stand_for, stand_ins}
+use Rattle.settlement_definitions.specs.Classes.{SettleAlike, classes_of}
 
 -- a stand-in is of the kind of each outcome that it stands for, and gives each offer the same gain
 abbrev pub StandInSettlesAlike : Type 0

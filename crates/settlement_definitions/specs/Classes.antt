@@ -1,16 +1,21 @@
-use Rattle.std.specs.Prelude.{Bool, if◌then◌else◌, not, ◌&&◌, List, [], ◌∷◌, filter}
+use Rattle.std.specs.Prelude.{◌≡◌, Bool, if◌then◌else◌, not, ◌&&◌, List, [], ◌∷◌, filter, All}
 use Rattle.std.specs.List.{list_all}
 use Rattle.std.specs.Ordering.{int_eq}
 use Rattle.scan_types.specs.declared.offer.Offer.{Offer}
 use Rattle.scan_types.specs.declared.outcome.Outcome.{Outcome}
 use Rattle.settlement_definitions.specs.Gain.{gain}
-use Rattle.settle_classes.specs.StandIns.{is_final, stand_ins}
+use Rattle.settlement_definitions.specs.StandIns.{is_final, stand_ins}
+
+-- two outcomes are of the same kind and give each offer the same gain
+pub record SettleAlike (offers : List Offer) (x y : Outcome) : Type 0 where
+  pub kind : is_final x ≡ is_final y
+  pub gains : All (λ offer. gain offer x ≡ gain offer y) offers
 
 -- whether both are true or both are false
 abbrev pub same_bool : Bool → Bool → Bool
 same_bool a b = if a then b else not b
 
--- whether two outcomes are of the same kind and give each offer the same gain
+-- the test of this
 unfoldable pub settle_alike : List Offer → Outcome → Outcome → Bool
 settle_alike offers x y = same_bool (is_final x) (is_final y) && list_all (λ offer. int_eq (gain offer x) (gain offer y)) offers
 
