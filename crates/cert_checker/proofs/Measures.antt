@@ -1,0 +1,44 @@
+-- When each entry can stand at its place, and one is a final score, the entries are a price measure; and the other way round.
+use Rattle.std.proofs.Common.{◌≡◌, ◌≢◌, ℕ, ◌<◌, ◌≤◌, ◌-◌, List, zero, suc, [], ◌∷◌, length, get_or, take, refl, sym, subst, ◌∙◌, ap, arith}
+use Rattle.std.specs.Prelude.{Any, AllPairs, All}
+use Rattle.std.proofs.lemmas.List.{length-take, get_or-take}
+use Rattle.scan_types.specs.declared.outcome.Outcome.{Outcome}
+use Rattle.scan_types.specs.declared.outcome.Outcome.TheVariants.{Full}
+use Rattle.scan_types.specs.declared.limits.TheConstants.{MOST_MEASURE_ENTRIES, MOST_PART}
+use Rattle.finding_definitions.specs.Measure.{IsFinal, IsMeasure, IsPriceMeasure}
+use Rattle.cert_checker.specs.Places.{AllHold}
+use Rattle.cert_checker.specs.Shapes.{IsEntry}
+
+abbrev Entry : Type 0
+Entry = Outcome × ℕ
+
+-- entries that can stand at their places are distinct
+entries_distinct : (m : List Entry) → AllHold (IsEntry m) m → AllPairs (λ e f. e.0 ≢ f.0) m
+entries_distinct m fit i j d less below =
+    λ same. (fit j d below).new (i, get_or m i d, omega (arith, length-take j m), ?, same)
+
+pub price_measure : (m : List Entry) → AllHold (IsEntry m) m → Any (λ e. IsFinal e.0) m → IsPriceMeasure m
+price_measure m fit final =
+    let some : 1 ≤ length m = omega (arith, final.2) in
+    let nothing : Entry = (Full 0 0, 0) in
+    let last = fit (length m - 1) nothing (omega arith) in
+    record {
+      form =
+          record {
+            some = some;
+            few = omega (arith, last.few);
+            distinct = entries_distinct m fit;
+            scores = λ k d lt. (fit k d lt).scores;
+            weights = λ k d lt. ((fit k d lt).weight_at_least, (fit k d lt).weight_at_most);
+          };
+      final = final;
+    }
+
+pub entries_fit : (m : List Entry) → IsMeasure m → AllHold (IsEntry m) m
+entries_fit m form j d below = record {
+  few = omega (arith, form.few);
+  weight_at_least = (form.weights j d below).0;
+  weight_at_most = (form.weights j d below).1;
+  scores = form.scores j d below;
+  new = λ early. ?;
+}

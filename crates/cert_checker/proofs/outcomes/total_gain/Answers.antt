@@ -1,0 +1,4 @@
+use Rattle.cert_checker.proofs.outcomes.total_gain.Goals as goal
+
+pub loop-i-preserved : goal.loop-i-preserved
+loop-i-preserved c = ?

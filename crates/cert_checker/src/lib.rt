@@ -1,0 +1,19 @@
+//! Whether a verdict is right for a sheet, over all outcomes: the checker that an auditor trusts.
+//!
+//! It knows settlement and findings alone, and nothing of how a verdict was found. It must never stand on
+//! a crate of pivoting, programs or judging.
+//!
+//! - `answer`: `check`, and its answers in the order in which they are tried.
+//! - `shape`, `limits`, `outcomes`, `means`: the tests.
+//!
+//! O(98 * offers) for stakes, O(offers * entries + entries^2) for a measure. Takes no memory.
+#![tactic(auto)]
+
+//mod answer;
+mod limits;
+mod means;
+mod outcomes;
+mod shape;
+mod terms;
+
+//pub use answer::{Answer, Checked, Part, check};
