@@ -8,6 +8,7 @@ use Rattle.scan_types.specs.declared.limits.TheConstants.{MOST_MEASURE_ENTRIES, 
 use Rattle.finding_definitions.specs.Measure.{IsFinal, IsMeasure, IsPriceMeasure}
 use Rattle.cert_checker.specs.Places.{AllHold}
 use Rattle.cert_checker.specs.Shapes.{IsEntry}
+use Rattle.cert_checker.proofs.Searches.{get_or-any}
 
 abbrev Entry : Type 0
 Entry = Outcome × ℕ
@@ -15,7 +16,7 @@ Entry = Outcome × ℕ
 -- entries that can stand at their places are distinct
 entries_distinct : (m : List Entry) → AllHold (IsEntry m) m → AllPairs (λ e f. e.0 ≢ f.0) m
 entries_distinct m fit i j d less below =
-    λ same. (fit j d below).new (i, get_or m i d, omega (arith, length-take j m), ?, same)
+    λ same. (fit j d below).new (i, get_or m i d, omega (arith, length-take j m), get_or-take j m i (get_or m i d) less ∙ get_or-any m i (get_or m i d) d (omega arith), same)
 
 pub price_measure : (m : List Entry) → AllHold (IsEntry m) m → Any (λ e. IsFinal e.0) m → IsPriceMeasure m
 price_measure m fit final =
@@ -40,5 +41,9 @@ entries_fit m form j d below = record {
   weight_at_least = (form.weights j d below).0;
   weight_at_most = (form.weights j d below).1;
   scores = form.scores j d below;
-  new = λ early. ?;
+  new = λ early.
+      let (i, e, short, is, same) = early in
+      let less : i < j = omega (arith, length-take j m, short) in
+      let here : get_or m i e ≡ e = sym (get_or-take j m i e less) ∙ is in
+      form.distinct i j d less below (ap (λ x. x.0) (get_or-any m i d e (omega arith) ∙ here) ∙ same);
 }

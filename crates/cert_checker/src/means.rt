@@ -6,9 +6,8 @@ ghost use Rattle.std.specs.Int.{int_max};
 ghost use Rattle.scan_types.specs.declared.limits.TheConstants.{MOST_OFFERS};
 ghost use Rattle.cert_checker.specs.Gains.{FindsGain};
 
-use crate::terms::{need, weighed};
+use crate::terms::{weighed_gain, weighed_need};
 use scan_types::{Offer, Outcome};
-use void_rules::gain;
 
 /// The first offer with a gain on average, with its mean: O(offers * entries).
 pub(crate) fn gaining_offer(
@@ -36,7 +35,7 @@ fn mean(offer: &Offer, entries: &[(Outcome, u64)]) -> i128
 {
     let mut sum: i128 = 0;
     for entry in entries {
-        sum += weighed(entry.1, gain(offer, entry.0));
+        sum += weighed_gain(entry.1, offer, entry.0);
     }
     sum
 }
@@ -72,7 +71,7 @@ pub(crate) fn need_of_unit(entries: &[(Outcome, u64)]) -> i128
 {
     let mut sum: i128 = 0;
     for entry in entries {
-        sum += i128::from(entry.1) * need(entry.0);
+        sum += weighed_need(entry.1, entry.0);
     }
     2000 * sum
 }

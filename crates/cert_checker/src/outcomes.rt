@@ -5,10 +5,10 @@ ghost use Rattle.finding_definitions.specs.Arbitrage.{total_gain, total_net};
 ghost use Rattle.scan_types.specs.declared.limits.TheConstants.{MOST_OFFERS, MOST_PART};
 ghost use Rattle.cert_checker.specs.Losses.{FindsLoss};
 
-use crate::terms::{need, weighed};
+use crate::terms::{need, weighed_gain};
 use scan_types::{Offer, Outcome};
 use settle_classes::{STAND_INS, stand_in};
-use void_rules::{gain, paid};
+use void_rules::paid;
 
 /// The first stand-in in class order at which whole stakes win less than is needed, with what they win
 /// there. Settles each offer once at each stand-in.
@@ -78,7 +78,7 @@ fn total_gain(offers: &[Offer], parts: &[u64], outcome: Outcome) -> i128
 {
     let mut won: i128 = 0;
     for (i, offer) in offers.iter().enumerate() {
-        won += weighed(parts[i], gain(offer, outcome));
+        won += weighed_gain(parts[i], offer, outcome);
     }
     won
 }
