@@ -1,3 +1,4 @@
 pub mod Searches
 pub mod Prefixes
 pub mod Measures
+pub mod Rightness

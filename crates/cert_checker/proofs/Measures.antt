@@ -1,10 +1,10 @@
 -- When each entry can stand at its place, and one is a final score, the entries are a price measure; and the other way round.
-use Rattle.std.proofs.Common.{◌≡◌, ◌≢◌, ℕ, ◌<◌, ◌≤◌, ◌-◌, List, zero, suc, [], ◌∷◌, length, get_or, take, refl, sym, subst, ◌∙◌, ap, arith}
-use Rattle.std.specs.Prelude.{Any, AllPairs, All}
+use Rattle.std.proofs.Common.{◌≡◌, ◌≢◌, ℕ, ◌<◌, ◌≤◌, ◌-◌, List, [], ◌∷◌, length, get_or, sym, ◌∙◌, ap, arith}
+use Rattle.std.specs.Prelude.{Any, AllPairs}
 use Rattle.std.proofs.lemmas.List.{length-take, get_or-take}
 use Rattle.scan_types.specs.declared.outcome.Outcome.{Outcome}
 use Rattle.scan_types.specs.declared.outcome.Outcome.TheVariants.{Full}
-use Rattle.scan_types.specs.declared.limits.TheConstants.{MOST_MEASURE_ENTRIES, MOST_PART}
+use Rattle.scan_types.specs.declared.limits.TheConstants.{MOST_MEASURE_ENTRIES}
 use Rattle.finding_definitions.specs.Measure.{IsFinal, IsMeasure, IsPriceMeasure}
 use Rattle.cert_checker.specs.Places.{AllHold}
 use Rattle.cert_checker.specs.Shapes.{IsEntry}
@@ -47,3 +47,7 @@ entries_fit m form j d below = record {
       let here : get_or m i e ≡ e = sym (get_or-take j m i e less) ∙ is in
       form.distinct i j d less below (ap (λ x. x.0) (get_or-any m i d e (omega arith) ∙ here) ∙ same);
 }
+
+pub few_entries : (m : List Entry) → AllHold (IsEntry m) m → length m ≤ MOST_MEASURE_ENTRIES
+few_entries [] fit = omega arith
+few_entries (e ∷ m) fit = let last = fit (length m) e (omega arith) in omega (arith, last.few)

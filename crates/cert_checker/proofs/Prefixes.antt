@@ -1,5 +1,5 @@
 -- One term more of a sum over the first elements of a list.
-use Rattle.std.proofs.Common.{◌≡◌, ℕ, ℤ, pos, ◌+◌, ◌<◌, ◌+ℤ◌, List, zero, suc, [], ◌∷◌, length, get_or, take, refl, sym, ap, ◌∙◌, arith, add-one}
+use Rattle.std.proofs.Common.{◌≡◌, ℕ, ℤ, pos, ◌+◌, ◌<◌, ◌+ℤ◌, List, zero, suc, [], ◌∷◌, length, get_or, take, sym, ap, ◌∙◌, arith, add-one}
 use Rattle.std.proofs.lemmas.Int.{ints}
 use Rattle.scan_types.specs.declared.offer.Offer.{Offer}
 use Rattle.finding_definitions.specs.Arbitrage.{sum_over}

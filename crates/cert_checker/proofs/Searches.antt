@@ -1,5 +1,5 @@
 -- A loop that looks for the first place at which a fact fails.
-use Rattle.std.proofs.Common.{◌≡◌, ℕ, ◌+◌, ◌<◌, List, zero, suc, [], ◌∷◌, length, get_or, inl, inr, refl, sym, subst, arith}
+use Rattle.std.proofs.Common.{◌≡◌, ℕ, ◌+◌, ◌<◌, List, zero, suc, [], ◌∷◌, length, get_or, inl, inr, refl, subst, arith}
 use Rattle.std.proofs.lemmas.Bool.{cases_lt}
 use Rattle.cert_checker.specs.Places.{AllHold, IsFirstFailure}
 

@@ -3,17 +3,19 @@
 //! It knows settlement and findings alone, and nothing of how a verdict was found. It must never stand on
 //! a crate of pivoting, programs or judging.
 //!
-//! - `answer`: `check`, and its answers in the order in which they are tried.
+//! - `checking`: `check`, with the tests in their order. `answer`: what it answers.
 //! - `shape`, `limits`, `outcomes`, `means`: the tests.
 //!
 //! O(98 * offers) for stakes, O(offers * entries + entries^2) for a measure. Takes no memory.
 #![tactic(auto)]
 
-//mod answer;
+mod answer;
+mod checking;
 mod limits;
 mod means;
 mod outcomes;
 mod shape;
 mod terms;
 
-//pub use answer::{Answer, Checked, Part, check};
+pub use answer::{Answer, Checked, Part};
+pub use checking::check;

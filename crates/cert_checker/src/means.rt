@@ -10,10 +10,7 @@ use crate::terms::{weighed_gain, weighed_need};
 use scan_types::{Offer, Outcome};
 
 /// The first offer with a gain on average, with its mean: O(offers * entries).
-pub(crate) fn gaining_offer(
-    offers: &[Offer],
-    entries: &[(Outcome, u64)],
-) -> Option<(usize, i128)>
+pub(crate) fn gaining_offer(offers: &[Offer], entries: &[(Outcome, u64)]) -> Option<(usize, i128)>
     requires { IsMeasure entries.now }
     ensures { FindsGain offers.now entries.now result }
 {

@@ -1,16 +1,45 @@
 ghost use Rattle.std.specs.Prelude.{ℕ, ◌≡◌, ◌<◌, ◌≤◌, ◌↔◌, IsTrue, Any, length, MatchOption, IfSome, slice_index_or};
 ghost use Rattle.finding_definitions.specs.Measure.{IsFinal, IsPriceMeasure};
 ghost use Rattle.settlement_definitions.specs.Scores.{HasScoresInRange};
-ghost use Rattle.scan_types.specs.declared.limits.TheConstants.{MOST_PART, MOST_MEASURE_ENTRIES};
+ghost use Rattle.scan_types.specs.declared.limits.TheConstants.{MOST_MEASURE_ENTRIES};
 ghost use Rattle.cert_checker.specs.Places.{Finds};
-ghost use Rattle.cert_checker.specs.Shapes.{IsEntry, IsMeasureFault};
+ghost use Rattle.cert_checker.specs.Shapes.{HasShape, IsEntry, IsMeasureFault, IsMiscount, IsPart, IsShapeFault};
 
+use finding_definitions::Parts;
 use scan_types::Outcome;
 use scan_types::limits::{MOST_MEASURE_ENTRIES, MOST_PART, MOST_SCORE};
 
+/// The smaller of the two counts, if the stakes are not one for each offer.
+pub(crate) fn miscount(stakes: usize, offers: usize) -> Option<usize>
+    ensures { MatchOption result (stakes ≡ offers) (λ k. IsMiscount stakes offers k) }
+{
+    if stakes == offers {
+        None
+    } else {
+        Some(stakes.min(offers))
+    }
+}
+
+/// What is wrong with the form of fractional stakes on so many offers: the smaller count if there is not one
+/// for each offer, the number of offers if the divisor is 0 or above `MOST_PART`, or the place of the first
+/// part above `MOST_PART`.
+pub(crate) fn shape_fault(offers: usize, stakes: &Parts) -> Option<usize>
+    ensures fault { MatchOption result (HasShape offers stakes.now) (λ k. IsShapeFault offers stakes.now k) }
+    ensures few { IfSome result (λ k. k ≤ offers) }
+{
+    let parts = stakes.items();
+    if let Some(k) = miscount(parts.len(), offers) {
+        return Some(k);
+    }
+    if stakes.divisor() == 0 || stakes.divisor() > MOST_PART {
+        return Some(offers);
+    }
+    large_part(parts)
+}
+
 /// The place of the first part above `MOST_PART`, if there is one.
-pub(crate) fn large_part(parts: &[u64]) -> Option<usize>
-    ensures { Finds (λ _ part. part ≤ MOST_PART) parts.now result }
+fn large_part(parts: &[u64]) -> Option<usize>
+    ensures { Finds IsPart parts.now result }
 {
     for (k, part) in parts.iter().enumerate() {
         if *part > MOST_PART {

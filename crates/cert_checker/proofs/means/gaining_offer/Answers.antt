@@ -1,5 +1,5 @@
 use Rattle.std.proofs.Common.{◌≡◌, ◌≤ℤ◌, ap, sym, ◌∙◌, arith, subst, get_or}
-use Rattle.std.specs.Prelude.{ℤ, pos, ◌<ℤ◌, slice_get, Some}
+use Rattle.std.specs.Prelude.{pos, ◌<ℤ◌, slice_get, Some}
 use Rattle.std.proofs.lemmas.Int.{ints}
 use Rattle.std.proofs.lemmas.Option.{slice_get-get_or}
 use Rattle.finding_definitions.specs.Measure.{mean}

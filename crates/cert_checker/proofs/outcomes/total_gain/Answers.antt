@@ -15,5 +15,5 @@ loop-i-preserved c =
     let low : i < length numbers = omega (arith, c.requires.count, c.loop-i-test.true) in
     let more = sum_over-take_more (λ offer n. pos n *ℤ gain offer c.args.outcome) offers numbers i offer c.loop-i-test.true low in
     let step : total_of (take (i + 1) offers) (take (i + 1) numbers) c.args.outcome ≡ total_of (take i offers) (take i numbers) c.args.outcome +ℤ c.weighed_gain-won.result =
-    more ∙ ap (λ o. total_of (take i offers) (take i numbers) c.args.outcome +ℤ (λ offer n. pos n *ℤ gain offer c.args.outcome) o (get_or numbers i 0)) (sym c.index-offers-i.is) ∙ ap (λ z. total_of (take i offers) (take i numbers) c.args.outcome +ℤ z) (sym c.weighed_gain-won.ensures.exact) in
+    more ∙ ap (λ o. total_of (take i offers) (take i numbers) c.args.outcome +ℤ pos (get_or numbers i 0) *ℤ gain o c.args.outcome) (sym c.index-offers-i.is) ∙ ap (λ z. total_of (take i offers) (take i numbers) c.args.outcome +ℤ z) (sym c.weighed_gain-won.ensures.exact) in
     (omega (arith, ints, step, before), omega (arith, ints), omega (arith, ints))

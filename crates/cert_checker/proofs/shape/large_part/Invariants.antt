@@ -1,7 +1,6 @@
-use Rattle.std.proofs.Common.{◌≤◌}
-use Rattle.scan_types.specs.declared.limits.TheConstants.{MOST_PART}
+use Rattle.cert_checker.specs.Shapes.{IsPart}
 use Rattle.cert_checker.proofs.Searches.{HoldBefore}
 use Rattle.cert_checker.proofs.shape.large_part.Given as goal
 
 abbrev pub invariant-loop-k : goal.invariant-loop-k
-invariant-loop-k l = HoldBefore (λ _ part. part ≤ MOST_PART) l.parts l.k
+invariant-loop-k l = HoldBefore IsPart l.parts l.k
