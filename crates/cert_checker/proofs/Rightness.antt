@@ -85,11 +85,11 @@ yes_right offers (Narrow stakes m) answer tests told = subst IsYes tests told
 yes_right offers (Wide stage pivots place) answer tests told = subst IsYes tests told
 yes_right offers (OutOfPivots stage pivots) answer tests told = subst IsYes tests told
 
-no_measure_fault : (m : List (Outcome × ℕ)) (k : ℕ) → IsPriceMeasure m → IsMeasureFault m k → ⊥
+pub no_measure_fault : (m : List (Outcome × ℕ)) (k : ℕ) → IsPriceMeasure m → IsMeasureFault m k → ⊥
 no_measure_fault m k price (inl first) = let nothing : Outcome × ℕ = (Full 0 0, 0) in first.fails nothing (entries_fit m price.form k nothing first.within)
 no_measure_fault m k price (inr none) = none.1 price.final
 
-no_shape_fault : (offers : ℕ) (d : ℕ) (parts : List ℕ) (k : ℕ) → HasShape offers (record { divisor = d; parts = parts }) → IsShapeFault offers (record { divisor = d; parts = parts }) k → ⊥
+pub no_shape_fault : (offers : ℕ) (d : ℕ) (parts : List ℕ) (k : ℕ) → HasShape offers (record { divisor = d; parts = parts }) → IsShapeFault offers (record { divisor = d; parts = parts }) k → ⊥
 no_shape_fault offers d parts k shape (inl count) = count.0 shape.count
 no_shape_fault offers d parts k shape (inr (count, inl divisor)) = divisor.0 shape.divisor
 no_shape_fault offers d parts k shape (inr (count, inr (divisor, first))) = first.fails 0 (shape.small k 0 first.within)

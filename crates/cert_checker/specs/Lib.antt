@@ -4,3 +4,4 @@ pub mod Losses
 pub mod Gains
 pub mod Answers
 pub mod Arbitrage
+pub mod Laws

@@ -4,6 +4,7 @@
 //! a crate of pivoting, programs or judging.
 //!
 //! - `checking`: `check`, with the tests in their order. `answer`: what it answers.
+//! - `laws`: a finding has one answer.
 //! - `shape`, `limits`, `outcomes`, `means`: the tests.
 //!
 //! O(98 * offers) for stakes, O(offers * entries + entries^2) for a measure. Takes no memory.
@@ -11,6 +12,7 @@
 
 mod answer;
 mod checking;
+pub mod laws;
 mod limits;
 mod means;
 mod outcomes;
