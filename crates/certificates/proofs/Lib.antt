@@ -1,3 +1,4 @@
 pub mod Writes
 pub mod Readers
 pub mod Numbers
+pub mod Findings

@@ -76,17 +76,17 @@ pub record Then {A B C : Type 0} (f : A → B → C) (P1 : A → Type 0) (t1 : A
   pub second : (a : A) → P1 a → Reads (P2 a) (t2 a) (r2 a)
   pub leads : (a : A) (b : B) (rest : List ℕ) → Ends rest → Ends (t2 a b ++ rest)
   pub some : (a : A) → P1 a → (b : B) × P2 a b
-  pub texts : (a : A) (b : B) → t (f a b) ≡ t1 a ++ t2 a b
+  pub texts : (a : A) (b : B) → P1 a → P2 a b → t (f a b) ≡ t1 a ++ t2 a b
 
 then_text : {A B C : Type 0} (f : A → B → C) (P1 : A → Type 0) (t1 : A → List ℕ) (r1 : List ℕ → Read A) (P2 : A → B → Type 0) (t2 : A → B → List ℕ) (r2 : A → List ℕ → Read B) (t : C → List ℕ)
-    → Then f P1 t1 r1 P2 t2 r2 t → (a : A) (b : B) (y : List ℕ) → t (f a b) ++ y ≡ t1 a ++ (t2 a b ++ y)
-then_text f P1 t1 r1 P2 t2 r2 t h a b y = ap (λ (u : List ℕ). u ++ y) (h.texts a b) ∙ append_assoc (t1 a) (t2 a b) y
+    → Then f P1 t1 r1 P2 t2 r2 t → (a : A) (b : B) → P1 a → P2 a b → (y : List ℕ) → t (f a b) ++ y ≡ t1 a ++ (t2 a b ++ y)
+then_text f P1 t1 r1 P2 t2 r2 t h a b p q y = ap (λ (u : List ℕ). u ++ y) (h.texts a b p q) ∙ append_assoc (t1 a) (t2 a b) y
 
 then_again : {A B C : Type 0} (f : A → B → C) (P1 : A → Type 0) (t1 : A → List ℕ) (r1 : List ℕ → Read A) (P2 : A → B → Type 0) (t2 : A → B → List ℕ) (r2 : A → List ℕ → Read B) (t : C → List ℕ)
-    → Then f P1 t1 r1 P2 t2 r2 t → (a : A) (b : B) (rest : List ℕ) → r1 (t1 a ++ (t2 a b ++ rest)) ≡ Ok (a, t2 a b ++ rest) → r2 a (t2 a b ++ rest) ≡ Ok (b, rest)
+    → Then f P1 t1 r1 P2 t2 r2 t → (a : A) (b : B) → P1 a → P2 a b → (rest : List ℕ) → r1 (t1 a ++ (t2 a b ++ rest)) ≡ Ok (a, t2 a b ++ rest) → r2 a (t2 a b ++ rest) ≡ Ok (b, rest)
     → then_with f r1 r2 (t (f a b) ++ rest) ≡ Ok (f a b, rest)
-then_again f P1 t1 r1 P2 t2 r2 t h a b rest e1 e2 =
-    ap (then_with f r1 r2) (then_text f P1 t1 r1 P2 t2 r2 t h a b rest)
+then_again f P1 t1 r1 P2 t2 r2 t h a b p q rest e1 e2 =
+    ap (then_with f r1 r2) (then_text f P1 t1 r1 P2 t2 r2 t h a b p q rest)
     ∙ bind_is (r1 (t1 a ++ (t2 a b ++ rest))) (λ x. r2 x.0 x.1 >>= λ y. Ok (f x.0 y.0, y.1)) (a, t2 a b ++ rest) e1
     ∙ bind_is (r2 a (t2 a b ++ rest)) (λ y. Ok (f a y.0, y.1)) (b, rest) e2
 
@@ -98,11 +98,11 @@ Reads-then {A} {B} {C} f P1 t1 r1 P2 t2 r2 t h = record {
     let (y, ey, e2) = bind_ok (r2 x.0 x.1) (λ y. Ok (f x.0 y.0, y.1)) c e1 in
     let one = h.first.takes s x ex in
     let two = (h.second x.0 one.1).takes x.1 y ey in
-    let whole : s ≡ t (f x.0 y.0) ++ y.1 = one.0 ∙ ap (λ (u : List ℕ). t1 x.0 ++ u) two.0 ∙ sym (then_text f P1 t1 r1 P2 t2 r2 t h x.0 y.0 y.1) in
+    let whole : s ≡ t (f x.0 y.0) ++ y.1 = one.0 ∙ ap (λ (u : List ℕ). t1 x.0 ++ u) two.0 ∙ sym (then_text f P1 t1 r1 P2 t2 r2 t h x.0 y.0 one.1 two.1 y.1) in
     subst (λ (z : C × List ℕ). (s ≡ t z.0 ++ z.1) × Both f P1 P2 z.0) (ok_is (f x.0 y.0, y.1) c e2) (whole, (x.0, y.0, one.1, two.1, refl));
   again = λ c rest fits ends.
     let (a, b, p1, p2, e) = fits in
-    let made = then_again f P1 t1 r1 P2 t2 r2 t h a b rest (h.first.again a (t2 a b ++ rest) p1 (h.leads a b rest ends)) ((h.second a p1).again b rest p2 ends) in
+    let made = then_again f P1 t1 r1 P2 t2 r2 t h a b p1 p2 rest (h.first.again a (t2 a b ++ rest) p1 (h.leads a b rest ends)) ((h.second a p1).again b rest p2 ends) in
     subst (λ (z : C). then_with f r1 r2 (t z ++ rest) ≡ Ok (z, rest)) (sym e) made;
   here = λ s c other e same.
     let (x, ex, e1) = bind_ok (r1 s) (λ x. r2 x.0 x.1 >>= λ y. Ok (f x.0 y.0, y.1)) c e in
@@ -111,7 +111,7 @@ Reads-then {A} {B} {C} f P1 t1 r1 P2 t2 r2 t h = record {
     let two = (h.second x.0 one.1).takes x.1 y ey in
     let same_y : SameHead y.1 other = subst (λ (z : C × List ℕ). SameHead z.1 other) (sym (ok_is (f x.0 y.0, y.1) c e2)) same in
     let same_x : SameHead x.1 (t2 x.0 y.0 ++ other) = subst (λ (u : List ℕ). SameHead u (t2 x.0 y.0 ++ other)) (sym two.0) (SameHead-append (t2 x.0 y.0) y.1 other same_y) in
-    let made = then_again f P1 t1 r1 P2 t2 r2 t h x.0 y.0 other (h.first.here s x (t2 x.0 y.0 ++ other) ex same_x) ((h.second x.0 one.1).here x.1 y other ey same_y) in
+    let made = then_again f P1 t1 r1 P2 t2 r2 t h x.0 y.0 one.1 two.1 other (h.first.here s x (t2 x.0 y.0 ++ other) ex same_x) ((h.second x.0 one.1).here x.1 y other ey same_y) in
     subst (λ (z : C × List ℕ). then_with f r1 r2 (t z.0 ++ other) ≡ Ok (z.0, other)) (ok_is (f x.0 y.0, y.1) c e2) made;
   stuck = λ s n e.
     elim (bind_err (r1 s) (λ x. r2 x.0 x.1 >>= λ y. Ok (f x.0 y.0, y.1)) n e) [
@@ -123,10 +123,10 @@ Reads-then {A} {B} {C} f P1 t1 r1 P2 t2 r2 t h = record {
           some = f S.some b;
           more = S.more ++ t2 S.some b;
           fits = (S.some, b, S.fits, p2, refl);
-          goes_on = h.texts S.some b ∙ ap (λ (u : List ℕ). u ++ t2 S.some b) S.goes_on ∙ append_assoc S.front S.more (t2 S.some b);
+          goes_on = h.texts S.some b S.fits p2 ∙ ap (λ (u : List ℕ). u ++ t2 S.some b) S.goes_on ∙ append_assoc S.front S.more (t2 S.some b);
           ends_here = λ c after z y v er fits ends eq.
             let (a, w, q1, q2, ev) = fits in
-            S.ends_here c after z (t2 a w ++ y) a er q1 (h.leads a w y ends) (sym (then_text f P1 t1 r1 P2 t2 r2 t h a w y) ∙ ap (λ (u : C). t u ++ y) (sym ev) ∙ eq);
+            S.ends_here c after z (t2 a w ++ y) a er q1 (h.leads a w y ends) (sym (then_text f P1 t1 r1 P2 t2 r2 t h a w q1 q2 y) ∙ ap (λ (u : C). t u ++ y) (sym ev) ∙ eq);
         }
       | inr found ↦
         let (x, ex, e2) = found in
@@ -141,11 +141,11 @@ Reads-then {A} {B} {C} f P1 t1 r1 P2 t2 r2 t h = record {
               some = f x.0 S.some;
               more = S.more;
               fits = (x.0, S.some, one.1, S.fits, refl);
-              goes_on = h.texts x.0 S.some ∙ ap (λ (u : List ℕ). t1 x.0 ++ u) S.goes_on ∙ sym (append_assoc (t1 x.0) S.front S.more);
+              goes_on = h.texts x.0 S.some one.1 S.fits ∙ ap (λ (u : List ℕ). t1 x.0 ++ u) S.goes_on ∙ sym (append_assoc (t1 x.0) S.front S.more);
               ends_here = λ c after z y v er fits ends eq.
                 let (a, w, q1, q2, ev) = fits in
                 let same_x : SameHead x.1 (S.front ++ c ∷ z) = subst (λ (u : List ℕ). SameHead u (S.front ++ c ∷ z)) (sym (S.parts ∙ ap (λ (u : List ℕ). S.front ++ u) er)) (SameHead-front S.front c after z) in
-                let texts : t1 a ++ (t2 a w ++ y) ≡ t1 x.0 ++ (S.front ++ c ∷ z) = sym (then_text f P1 t1 r1 P2 t2 r2 t h a w y) ∙ ap (λ (u : C). t u ++ y) (sym ev) ∙ eq ∙ append_assoc (t1 x.0) S.front (c ∷ z) in
+                let texts : t1 a ++ (t2 a w ++ y) ≡ t1 x.0 ++ (S.front ++ c ∷ z) = sym (then_text f P1 t1 r1 P2 t2 r2 t h a w q1 q2 y) ∙ ap (λ (u : C). t u ++ y) (sym ev) ∙ eq ∙ append_assoc (t1 x.0) S.front (c ∷ z) in
                 let both : good (a, t2 a w ++ y) ≡ good (x.0, S.front ++ c ∷ z) = sym (h.first.again a (t2 a w ++ y) q1 (h.leads a w y ends)) ∙ ap r1 texts ∙ h.first.here s x (S.front ++ c ∷ z) ex same_x in
                 let pairs : (a, t2 a w ++ y) ≡ (x.0, S.front ++ c ∷ z) = ok_is (a, t2 a w ++ y) (x.0, S.front ++ c ∷ z) both in
                 let ea : a ≡ x.0 = ap (λ (p : A × List ℕ). p.0) pairs in
@@ -362,12 +362,12 @@ Reads-choice {A} k P Q t r q hp hq rp rq = record {
 abbrev pub AreItems : {A : Type 0} → (A → Type 0) → ℕ → List A → Type 0
 AreItems P n xs = (length xs ≡ n) × AllByRecursion P xs
 
-flat_map_leads : {A : Type 0} (t : A → List ℕ) → ((a : A) (rest : List ℕ) → Ends rest → Ends (t a ++ rest)) → (xs : List A) (rest : List ℕ) → Ends rest → Ends (flat_map t xs ++ rest)
+pub flat_map_leads : {A : Type 0} (t : A → List ℕ) → ((a : A) (rest : List ℕ) → Ends rest → Ends (t a ++ rest)) → (xs : List A) (rest : List ℕ) → Ends rest → Ends (flat_map t xs ++ rest)
 flat_map_leads t leads [] rest ends = ends
 flat_map_leads t leads (x ∷ xs) rest ends =
     subst Ends (sym (append_assoc (t x) (flat_map t xs) rest)) (leads x (flat_map t xs ++ rest) (flat_map_leads t leads xs rest ends))
 
-some_items : {A : Type 0} (P : A → Type 0) (a : A) → P a → (n : ℕ) → (xs : List A) × AreItems P n xs
+pub some_items : {A : Type 0} (P : A → Type 0) (a : A) → P a → (n : ℕ) → (xs : List A) × AreItems P n xs
 some_items P a p zero = ([], (refl, tt))
 some_items P a p (suc n) = let (xs, (l, all)) = some_items P a p n in (a ∷ xs, (ap suc l, (p, all)))
 
@@ -392,7 +392,7 @@ Reads-items {A} P t r leads a p h (suc n) =
           second = λ x q. Reads-items P t r leads a p h n;
           leads = λ x xs rest ends. flat_map_leads t leads xs rest ends;
           some = λ x q. some_items P a p n;
-          texts = λ x xs. refl;
+          texts = λ x xs p q. refl;
         })
   where
     cons : A → List A → List A
@@ -402,3 +402,16 @@ Reads-items {A} P t r leads a p h (suc n) =
     back : (xs : List A) → AreItems P (suc n) xs → Both cons P (λ x xs. AreItems P n xs) xs
     back [] h = absurd (omega arith)
     back (x ∷ xs) h = (x, xs, h.1.0, (omega arith, h.1.1), refl)
+
+-- ---- a kind by its first word
+
+pub Reads-kind : {A : Type 0} (word : List ℕ) (P : A → Type 0) (body : A → List ℕ) (r : List ℕ → Read A) (t : A → List ℕ) → (a : A) → P a → ((a : A) → P a → t a ≡ word ++ body a) → Reads P body r → Reads P t (λ s. word_at word s >>= r)
+Reads-kind word P body r t a p texts h =
+    Reads-same P P (λ x. word ++ body x) t (λ s. word_at word s >>= r) (λ s. word_at word s >>= r) (λ x q. q) (λ x q. q) texts (λ s. refl) (Reads-word word P body r a p h)
+
+pub head_word : {A : Type 0} (c : ℕ) (word : List ℕ) (P : A → Type 0) (body t : A → List ℕ) → ((a : A) → P a → t a ≡ (c ∷ word) ++ body a) → (k : ℕ) → Heads k (eqb c k) P t
+head_word c word P body t texts k a p = (c, word ++ body a, texts a p, refl)
+
+pub heads_or : {A : Type 0} (k : ℕ) (b : Bool) (P Q : A → Type 0) (t : A → List ℕ) → Heads k b P t → Heads k b Q t → Heads k b (λ a. P a ⊎ Q a) t
+heads_or k b P Q t hp hq a (inl p) = hp a p
+heads_or k b P Q t hp hq a (inr q) = hq a q
