@@ -216,7 +216,7 @@ stage_text First = ap (λ (v : List ℕ). 32 ∷ v) (decimal_digit 1 (lit< tt))
 stage_text Slack = ap (λ (v : List ℕ). 32 ∷ v) (decimal_digit 2 (lit< tt))
 stage_text Plain = ap (λ (v : List ℕ). 32 ∷ v) (decimal_digit 3 (lit< tt))
 
-every_stage : (k : Stage) → AreStages k
+pub every_stage : (k : Stage) → AreStages k
 every_stage First = inl refl
 every_stage Slack = inr (inl refl)
 every_stage Plain = inr (inr refl)

@@ -2,3 +2,4 @@ pub mod Writes
 pub mod Readers
 pub mod Numbers
 pub mod Findings
+pub mod Whole
