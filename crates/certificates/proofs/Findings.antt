@@ -48,14 +48,14 @@ pub Reads-counted : {A : Type 0} (most : ℕ) → 9 ≤ most → most < 2 ^ 64 �
 unfolding counted_at
 Reads-counted {A} most big small P t r leads a p h =
     Reads-same (Both (λ (n : ℕ) (xs : List A). xs) (AtMost most) (AreItems P)) (AreFew most P) (λ xs. (32 ∷ decimal (length xs)) ++ flat_map t xs) (λ xs. (32 ∷ decimal (length xs)) ++ flat_map t xs)
-        (then_with (λ (n : ℕ) (xs : List A). xs) (field_at most) (items_at r)) (counted_at most r) there (λ xs few. (length xs, xs, few.0, (refl, few.1), refl)) (λ xs q. refl) (λ s. refl)
-        (Reads-then (λ (n : ℕ) (xs : List A). xs) (AtMost most) field_text (field_at most) (AreItems P) (λ n. flat_map t) (items_at r) (λ xs. (32 ∷ decimal (length xs)) ++ flat_map t xs) record {
-          first = Reads-field most big small;
-          second = λ n le. Reads-items P t r leads a p h n;
-          leads = λ n xs rest ends. flat_map_leads t leads xs rest ends;
-          some = λ n le. some_items P a p n;
-          texts = λ n xs le items. ap (λ (k : ℕ). (32 ∷ decimal k) ++ flat_map t xs) items.0;
-        })
+    (then_with (λ (n : ℕ) (xs : List A). xs) (field_at most) (items_at r)) (counted_at most r) there (λ xs few. (length xs, xs, few.0, (refl, few.1), refl)) (λ xs q. refl) (λ s. refl)
+    (Reads-then (λ (n : ℕ) (xs : List A). xs) (AtMost most) field_text (field_at most) (AreItems P) (λ n. flat_map t) (items_at r) (λ xs. (32 ∷ decimal (length xs)) ++ flat_map t xs) record {
+      first = Reads-field most big small;
+      second = λ n le. Reads-items P t r leads a p h n;
+      leads = λ n xs rest ends. flat_map_leads t leads xs rest ends;
+      some = λ n le. some_items P a p n;
+      texts = λ n xs le items. ap (λ (k : ℕ). (32 ∷ decimal k) ++ flat_map t xs) items.0;
+    })
   where
     there : (xs : List A) → Both (λ (n : ℕ) (xs : List A). xs) (AtMost most) (AreItems P) xs → AreFew most P xs
     there xs (n, ys, le, items, e) = subst (AreFew most P) (sym e) (subst (λ (k : ℕ). k ≤ most) (sym items.0) le, items.1)
@@ -67,8 +67,8 @@ pub Reads-stakes : Reads AreStakes (λ xs. spaced (stake_fields xs)) stakes_at
 unfolding stakes_at
 Reads-stakes =
     Reads-same AreStakes AreStakes (λ xs. (32 ∷ decimal (length xs)) ++ flat_map field_text xs) (λ xs. spaced (stake_fields xs)) (counted_at MOST_OFFERS (field_at MOST_SHORT)) stakes_at
-        (λ xs q. q) (λ xs q. q) (λ xs q. sym (counted_shape (λ (n : ℕ). decimal n ∷ []) xs field_text number_shape)) (λ s. refl)
-        (Reads-counted MOST_OFFERS (lit≤ tt) (lit< tt) (AtMost MOST_SHORT) field_text (field_at MOST_SHORT) (λ n rest ends. refl) 0 (omega arith) short_field)
+    (λ xs q. q) (λ xs q. q) (λ xs q. sym (counted_shape (λ (n : ℕ). decimal n ∷ []) xs field_text number_shape)) (λ s. refl)
+    (Reads-counted MOST_OFFERS (lit≤ tt) (lit< tt) (AtMost MOST_SHORT) field_text (field_at MOST_SHORT) (λ n rest ends. refl) 0 (omega arith) short_field)
 
 abbrev pub AreLongs : List ℕ → Type 0
 AreLongs = AreFew MOST_OFFERS (AtMost MOST_LONG)
@@ -131,12 +131,12 @@ pub Reads-outcome : Reads AreOutcomes (λ x. spaced (outcome_fields x)) outcome_
 unfolding outcome_at
 Reads-outcome =
     Reads-kind (codes " ") AreOutcomes kind_text (λ rest. cond (starts 102 rest) (word_at (codes "full") rest >>= pair_at MOST_LONG Full) (word_at (codes "abandoned") rest >>= pair_at MOST_LONG Abandoned)) (λ x. spaced (outcome_fields x))
-        (Full 0 0) (inl (0, 0, omega arith, omega arith, refl)) (λ x p. outcome_text x)
-        (Reads-choice 102 (IsPair MOST_LONG Full) (IsPair MOST_LONG Abandoned) kind_text (λ s. word_at (codes "full") s >>= pair_at MOST_LONG Full) (λ s. word_at (codes "abandoned") s >>= pair_at MOST_LONG Abandoned)
-            (head_word 102 (codes "ull") (IsPair MOST_LONG Full) goals_text kind_text full_text 102)
-            (head_word 97 (codes "bandoned") (IsPair MOST_LONG Abandoned) goals_text kind_text abandoned_text 102)
-            (Reads-kind (codes "full") (IsPair MOST_LONG Full) goals_text (pair_at MOST_LONG Full) kind_text (Full 0 0) (0, 0, omega arith, omega arith, refl) full_text (Reads-pair MOST_LONG (lit≤ tt) (lit< tt) Full goals_text (λ m n. refl)))
-            (Reads-kind (codes "abandoned") (IsPair MOST_LONG Abandoned) goals_text (pair_at MOST_LONG Abandoned) kind_text (Abandoned 0 0) (0, 0, omega arith, omega arith, refl) abandoned_text (Reads-pair MOST_LONG (lit≤ tt) (lit< tt) Abandoned goals_text (λ m n. refl))))
+    (Full 0 0) (inl (0, 0, omega arith, omega arith, refl)) (λ x p. outcome_text x)
+    (Reads-choice 102 (IsPair MOST_LONG Full) (IsPair MOST_LONG Abandoned) kind_text (λ s. word_at (codes "full") s >>= pair_at MOST_LONG Full) (λ s. word_at (codes "abandoned") s >>= pair_at MOST_LONG Abandoned)
+    (head_word 102 (codes "ull") (IsPair MOST_LONG Full) goals_text kind_text full_text 102)
+    (head_word 97 (codes "bandoned") (IsPair MOST_LONG Abandoned) goals_text kind_text abandoned_text 102)
+    (Reads-kind (codes "full") (IsPair MOST_LONG Full) goals_text (pair_at MOST_LONG Full) kind_text (Full 0 0) (0, 0, omega arith, omega arith, refl) full_text (Reads-pair MOST_LONG (lit≤ tt) (lit< tt) Full goals_text (λ m n. refl)))
+    (Reads-kind (codes "abandoned") (IsPair MOST_LONG Abandoned) goals_text (pair_at MOST_LONG Abandoned) kind_text (Abandoned 0 0) (0, 0, omega arith, omega arith, refl) abandoned_text (Reads-pair MOST_LONG (lit≤ tt) (lit< tt) Abandoned goals_text (λ m n. refl))))
 
 abbrev pub to_entry : Outcome → ℕ → Outcome × ℕ
 to_entry x w = (x, w)
@@ -172,8 +172,8 @@ pub Reads-measure : Reads AreMeasures (λ m. spaced (measure_fields m)) measure_
 unfolding measure_at
 Reads-measure =
     Reads-same AreMeasures AreMeasures (λ m. (32 ∷ decimal (length m)) ++ flat_map (λ e. spaced (entry_fields e)) m) (λ m. spaced (measure_fields m)) (counted_at MOST_MEASURE_ENTRIES entry_at) measure_at
-        (λ m q. q) (λ m q. q) (λ m q. sym (counted_shape entry_fields m (λ e. spaced (entry_fields e)) (λ x. refl))) (λ s. refl)
-        (Reads-counted MOST_MEASURE_ENTRIES (lit≤ tt) (lit< tt) AreEntries (λ e. spaced (entry_fields e)) entry_at entry_leads (Full 0 0, 0) (Full 0 0, 0, no_goals, omega arith, refl) Reads-entry)
+    (λ m q. q) (λ m q. q) (λ m q. sym (counted_shape entry_fields m (λ e. spaced (entry_fields e)) (λ x. refl))) (λ s. refl)
+    (Reads-counted MOST_MEASURE_ENTRIES (lit≤ tt) (lit< tt) AreEntries (λ e. spaced (entry_fields e)) entry_at entry_leads (Full 0 0, 0) (Full 0 0, 0, no_goals, omega arith, refl) Reads-entry)
 
 no_measure : AreMeasures []
 no_measure = (omega arith, tt)
@@ -228,15 +228,15 @@ pub Reads-stage : Reads AreStages (λ k. 32 ∷ decimal (stage_number k)) stage_
 unfolding stage_at
 Reads-stage =
     Reads-kind (codes " ") AreStages stage_digit (λ rest. cond (starts 49 rest) (word_at (codes "1") rest >>= λ s. Ok (First, s)) (cond (starts 50 rest) (word_at (codes "2") rest >>= λ s. Ok (Slack, s)) (word_at (codes "3") rest >>= λ s. Ok (Plain, s)))) (λ k. 32 ∷ decimal (stage_number k))
-        First (inl refl) (λ k p. stage_text k)
-        (Reads-choice 49 (Is First) (λ k. Is Slack k ⊎ Is Plain k) stage_digit (λ s. word_at (codes "1") s >>= λ r. Ok (First, r)) (λ rest. cond (starts 50 rest) (word_at (codes "2") rest >>= λ s. Ok (Slack, s)) (word_at (codes "3") rest >>= λ s. Ok (Plain, s)))
-            (head_word 49 [] (Is First) (λ b. []) stage_digit (λ k e. digit_text k First e) 49)
-            (heads_or 49 false (Is Slack) (Is Plain) stage_digit (head_word 50 [] (Is Slack) (λ b. []) stage_digit (λ k e. digit_text k Slack e) 49) (head_word 51 [] (Is Plain) (λ b. []) stage_digit (λ k e. digit_text k Plain e) 49))
-            (one_stage First)
-            (Reads-choice 50 (Is Slack) (Is Plain) stage_digit (λ s. word_at (codes "2") s >>= λ r. Ok (Slack, r)) (λ s. word_at (codes "3") s >>= λ r. Ok (Plain, r))
-                (head_word 50 [] (Is Slack) (λ b. []) stage_digit (λ k e. digit_text k Slack e) 50)
-                (head_word 51 [] (Is Plain) (λ b. []) stage_digit (λ k e. digit_text k Plain e) 50)
-                (one_stage Slack) (one_stage Plain)))
+    First (inl refl) (λ k p. stage_text k)
+    (Reads-choice 49 (Is First) (λ k. Is Slack k ⊎ Is Plain k) stage_digit (λ s. word_at (codes "1") s >>= λ r. Ok (First, r)) (λ rest. cond (starts 50 rest) (word_at (codes "2") rest >>= λ s. Ok (Slack, s)) (word_at (codes "3") rest >>= λ s. Ok (Plain, s)))
+    (head_word 49 [] (Is First) (λ b. []) stage_digit (λ k e. digit_text k First e) 49)
+    (heads_or 49 false (Is Slack) (Is Plain) stage_digit (head_word 50 [] (Is Slack) (λ b. []) stage_digit (λ k e. digit_text k Slack e) 49) (head_word 51 [] (Is Plain) (λ b. []) stage_digit (λ k e. digit_text k Plain e) 49))
+    (one_stage First)
+    (Reads-choice 50 (Is Slack) (Is Plain) stage_digit (λ s. word_at (codes "2") s >>= λ r. Ok (Slack, r)) (λ s. word_at (codes "3") s >>= λ r. Ok (Plain, r))
+    (head_word 50 [] (Is Slack) (λ b. []) stage_digit (λ k e. digit_text k Slack e) 50)
+    (head_word 51 [] (Is Plain) (λ b. []) stage_digit (λ k e. digit_text k Plain e) 50)
+    (one_stage Slack) (one_stage Plain)))
 
 abbrev pub to_run : Stage → ℕ → Stage × ℕ
 to_run k n = (k, n)
@@ -293,16 +293,16 @@ pub Reads-place : Reads ArePlaces (λ p. spaced (place_fields p)) place_at
 unfolding place_at
 Reads-place =
     Reads-kind (codes " ") ArePlaces where_text (λ rest. cond (starts 101 rest) (word_at (codes "entry") rest >>= pair_at MOST_SHORT Entry) (cond (starts 119 rest) (word_at (codes "weight") rest >>= one_at Weight) (word_at (codes "stake") rest >>= one_at Stake))) (λ p. spaced (place_fields p))
-        (Weight 0) (inr (inl (0, omega arith, refl))) (λ p q. place_text p)
-        (Reads-choice 101 (IsPair MOST_SHORT Entry) (λ p. IsOne Weight p ⊎ IsOne Stake p) where_text (λ s. word_at (codes "entry") s >>= pair_at MOST_SHORT Entry) (λ rest. cond (starts 119 rest) (word_at (codes "weight") rest >>= one_at Weight) (word_at (codes "stake") rest >>= one_at Stake))
-            (head_word 101 (codes "ntry") (IsPair MOST_SHORT Entry) numbers_text where_text place_entry 101)
-            (heads_or 101 false (IsOne Weight) (IsOne Stake) where_text (head_word 119 (codes "eight") (IsOne Weight) numbers_text where_text place_weight 101) (head_word 115 (codes "take") (IsOne Stake) numbers_text where_text place_stake 101))
-            (Reads-kind (codes "entry") (IsPair MOST_SHORT Entry) numbers_text (pair_at MOST_SHORT Entry) where_text (Entry 0 0) (0, 0, omega arith, omega arith, refl) place_entry (Reads-pair MOST_SHORT (lit≤ tt) (lit< tt) Entry numbers_text (λ m n. refl)))
-            (Reads-choice 119 (IsOne Weight) (IsOne Stake) where_text (λ s. word_at (codes "weight") s >>= one_at Weight) (λ s. word_at (codes "stake") s >>= one_at Stake)
-                (head_word 119 (codes "eight") (IsOne Weight) numbers_text where_text place_weight 119)
-                (head_word 115 (codes "take") (IsOne Stake) numbers_text where_text place_stake 119)
-                (Reads-kind (codes "weight") (IsOne Weight) numbers_text (one_at Weight) where_text (Weight 0) (0, omega arith, refl) place_weight (Reads-one Weight numbers_text (λ n. refl)))
-                (Reads-kind (codes "stake") (IsOne Stake) numbers_text (one_at Stake) where_text (Stake 0) (0, omega arith, refl) place_stake (Reads-one Stake numbers_text (λ n. refl)))))
+    (Weight 0) (inr (inl (0, omega arith, refl))) (λ p q. place_text p)
+    (Reads-choice 101 (IsPair MOST_SHORT Entry) (λ p. IsOne Weight p ⊎ IsOne Stake p) where_text (λ s. word_at (codes "entry") s >>= pair_at MOST_SHORT Entry) (λ rest. cond (starts 119 rest) (word_at (codes "weight") rest >>= one_at Weight) (word_at (codes "stake") rest >>= one_at Stake))
+    (head_word 101 (codes "ntry") (IsPair MOST_SHORT Entry) numbers_text where_text place_entry 101)
+    (heads_or 101 false (IsOne Weight) (IsOne Stake) where_text (head_word 119 (codes "eight") (IsOne Weight) numbers_text where_text place_weight 101) (head_word 115 (codes "take") (IsOne Stake) numbers_text where_text place_stake 101))
+    (Reads-kind (codes "entry") (IsPair MOST_SHORT Entry) numbers_text (pair_at MOST_SHORT Entry) where_text (Entry 0 0) (0, 0, omega arith, omega arith, refl) place_entry (Reads-pair MOST_SHORT (lit≤ tt) (lit< tt) Entry numbers_text (λ m n. refl)))
+    (Reads-choice 119 (IsOne Weight) (IsOne Stake) where_text (λ s. word_at (codes "weight") s >>= one_at Weight) (λ s. word_at (codes "stake") s >>= one_at Stake)
+    (head_word 119 (codes "eight") (IsOne Weight) numbers_text where_text place_weight 119)
+    (head_word 115 (codes "take") (IsOne Stake) numbers_text where_text place_stake 119)
+    (Reads-kind (codes "weight") (IsOne Weight) numbers_text (one_at Weight) where_text (Weight 0) (0, omega arith, refl) place_weight (Reads-one Weight numbers_text (λ n. refl)))
+    (Reads-kind (codes "stake") (IsOne Stake) numbers_text (one_at Stake) where_text (Stake 0) (0, omega arith, refl) place_stake (Reads-one Stake numbers_text (λ n. refl)))))
 
 abbrev pub to_wide : Stage × ℕ → WideAt → Finding
 to_wide k p = Wide k.0 k.1 p

@@ -53,15 +53,15 @@ digits_take most small [] number h = record { parts = refl; within = h; shorter 
 digits_take most small (c ∷ text) number h =
     elim (can_follow most number c) as (λ v. can_follow most number c ≡ v → Takes number (c ∷ text) most (cond v (digits_on most (10 * number + (c - 48)) text) (number, c ∷ text))) [
       | true ↦ λ e.
-        let f = follows most number c e in
-        let (low, high) = digit_bounds c f.digit in
-        let within : 10 * number + (c - 48) ≤ most = f.within in
-        let next = digits_take most small text (10 * number + (c - 48)) within in
-        record {
-          parts = sym (ap (λ (v : List ℕ). v ++ text) (one_more number c f.some low high (omega arith)) ∙ append_assoc (decimal number) (c ∷ []) text) ∙ next.parts;
-          within = next.within;
-          shorter = omega (arith, next.shorter);
-        }
+          let f = follows most number c e in
+          let (low, high) = digit_bounds c f.digit in
+          let within : 10 * number + (c - 48) ≤ most = f.within in
+          let next = digits_take most small text (10 * number + (c - 48)) within in
+          record {
+            parts = sym (ap (λ (v : List ℕ). v ++ text) (one_more number c f.some low high (omega arith)) ∙ append_assoc (decimal number) (c ∷ []) text) ∙ next.parts;
+            within = next.within;
+            shorter = omega (arith, next.shorter);
+          }
       | false ↦ λ e. record { parts = refl; within = h; shorter = omega arith }
     ] refl
 
@@ -74,16 +74,16 @@ number_core : (most : ℕ) → most < 2 ^ 64 → (n : ℕ) → n ≤ most → (t
 number_core most small n h =
     decimal_by_steps (λ n ds. n ≤ most → (text : List ℕ) → number_at most (ds ++ text) ≡ Ok (digits_on most n text))
     (λ n lt le text.
-        let e : (48 + n) - 48 ≡ n = omega arith in
-        number_starts most (48 + n) text (is_digit_of n lt) ∙ ap (λ (k : ℕ). Ok (digits_on most k text)) e)
+    let e : (48 + n) - 48 ≡ n = omega arith in
+    number_starts most (48 + n) text (is_digit_of n lt) ∙ ap (λ (k : ℕ). Ok (digits_on most k text)) e)
     (λ n ds ge before le text.
-        let c : ℕ = 48 + n % 10 in
-        let some : 0 < n / 10 = omega arith in
-        let whole : 10 * (n / 10) + (c - 48) ≡ n = omega arith in
-        let within : 10 * (n / 10) + (c - 48) ≤ most = omega arith in
-        let can = can_follow_is most (n / 10) c record { digit = is_digit_of (n % 10) (omega arith); some = some; within = within } in
-        let step : digits_on most (n / 10) (c ∷ text) ≡ digits_on most n text = ap (λ (v : Bool). cond v (digits_on most (10 * (n / 10) + (c - 48)) text) (n / 10, c ∷ text)) can ∙ ap (λ (k : ℕ). digits_on most k text) whole in
-        ap (number_at most) (append_assoc ds (c ∷ []) text) ∙ before (omega arith) (c ∷ text) ∙ ap (λ (x : ℕ × List ℕ). Ok x) step)
+    let c : ℕ = 48 + n % 10 in
+    let some : 0 < n / 10 = omega arith in
+    let whole : 10 * (n / 10) + (c - 48) ≡ n = omega arith in
+    let within : 10 * (n / 10) + (c - 48) ≤ most = omega arith in
+    let can = can_follow_is most (n / 10) c record { digit = is_digit_of (n % 10) (omega arith); some = some; within = within } in
+    let step : digits_on most (n / 10) (c ∷ text) ≡ digits_on most n text = ap (λ (v : Bool). cond v (digits_on most (10 * (n / 10) + (c - 48)) text) (n / 10, c ∷ text)) can ∙ ap (λ (k : ℕ). digits_on most k text) whole in
+    ap (number_at most) (append_assoc ds (c ∷ []) text) ∙ before (omega arith) (c ∷ text) ∙ ap (λ (x : ℕ × List ℕ). Ok x) step)
     n (omega arith) h
 
 -- nothing goes on with the number
@@ -103,12 +103,12 @@ stops_alike most small n h (c ∷ text) [] e same = refl
 stops_alike most small n h (c ∷ text) (d ∷ other) e same =
     elim (can_follow most n d) as (λ v. can_follow most n d ≡ v → cond v (digits_on most (10 * n + (d - 48)) other) (n, d ∷ other) ≡ (n, d ∷ other)) [
       | true ↦ λ can.
-        let can_c : can_follow most n c ≡ true = ap (can_follow most n) same ∙ can in
-        let f = follows most n c can_c in
-        let next = digits_take most small text (10 * n + (c - 48)) f.within in
-        let is : digits_on most (10 * n + (c - 48)) text ≡ (n, c ∷ text) = ap (λ (v : Bool). cond v (digits_on most (10 * n + (c - 48)) text) (n, c ∷ text)) (sym can_c) ∙ e in
-        let longer : length (digits_on most (10 * n + (c - 48)) text).1 ≡ length (c ∷ text) = ap (λ (x : ℕ × List ℕ). length x.1) is in
-        absurd (omega (arith, next.shorter))
+          let can_c : can_follow most n c ≡ true = ap (can_follow most n) same ∙ can in
+          let f = follows most n c can_c in
+          let next = digits_take most small text (10 * n + (c - 48)) f.within in
+          let is : digits_on most (10 * n + (c - 48)) text ≡ (n, c ∷ text) = ap (λ (v : Bool). cond v (digits_on most (10 * n + (c - 48)) text) (n, c ∷ text)) (sym can_c) ∙ e in
+          let longer : length (digits_on most (10 * n + (c - 48)) text).1 ≡ length (c ∷ text) = ap (λ (x : ℕ × List ℕ). length x.1) is in
+          absurd (omega (arith, next.shorter))
       | false ↦ λ can. refl
     ] refl
 
@@ -128,9 +128,9 @@ Reads-number most big small = record {
   takes = number_takes;
   again = λ n rest h ends. number_core most small n h rest ∙ ap (λ (x : ℕ × List ℕ). Ok x) (stops most n rest ends);
   here = λ s x other e same.
-    let one = number_takes s x e in
-    let on : digits_on most x.0 x.1 ≡ x = ok_is (digits_on most x.0 x.1) x (sym (number_core most small x.0 one.1 x.1) ∙ ap (number_at most) (sym one.0) ∙ e) in
-    number_core most small x.0 one.1 other ∙ ap (λ (x : ℕ × List ℕ). Ok x) (stops_alike most small x.0 one.1 x.1 other on same);
+      let one = number_takes s x e in
+      let on : digits_on most x.0 x.1 ≡ x = ok_is (digits_on most x.0 x.1) x (sym (number_core most small x.0 one.1 x.1) ∙ ap (number_at most) (sym one.0) ∙ e) in
+      number_core most small x.0 one.1 other ∙ ap (λ (x : ℕ × List ℕ). Ok x) (stops_alike most small x.0 one.1 x.1 other on same);
   stuck = number_stuck;
 } where
   number_takes : (s : List ℕ) (x : ℕ × List ℕ) → number_at most s ≡ Ok x → (s ≡ decimal x.0 ++ x.1) × (x.0 ≤ most)
@@ -140,23 +140,38 @@ Reads-number most big small = record {
       let (low, high) = digit_bounds c digit in
       let t = digits_take most small s (c - 48) (omega arith) in
       let made : (c ∷ s ≡ decimal (digits_on most (c - 48) s).0 ++ (digits_on most (c - 48) s).1) × ((digits_on most (c - 48) s).0 ≤ most) =
-          (ap (λ (v : List ℕ). v ++ s) (sym (small_number c low high)) ∙ t.parts, t.within) in
+      (ap (λ (v : List ℕ). v ++ s) (sym (small_number c low high)) ∙ t.parts, t.within) in
       subst (λ (y : ℕ × List ℕ). (c ∷ s ≡ decimal y.0 ++ y.1) × (y.0 ≤ most)) (ok_is (digits_on most (c - 48) s) x (sym (number_starts most c s digit) ∙ e)) made
+
   number_stuck : (s : List ℕ) (n : ℕ) → number_at most s ≡ Err n → Stuck (λ n. n ≤ most) decimal s n
   number_stuck [] n e = record {
-    front = []; rest = []; parts = refl; left = cc; some = 0; more = decimal 0; fits = omega arith; goes_on = refl;
+    front = [];
+    rest = [];
+    parts = refl;
+    left = cc;
+    some = 0;
+    more = decimal 0;
+    fits = omega arith;
+    goes_on = refl;
     ends_here = λ c after z y a er q ends eq. absurd cc;
   }
   number_stuck (c ∷ s) n e =
       elim (is_digit c) as (λ v. is_digit c ≡ v → cond v (Ok (digits_on most (c - 48) s)) (Err (suc (length s))) ≡ Err n → Stuck (λ n. n ≤ most) decimal (c ∷ s) n) [
         | true ↦ λ is h. absurd (not_both (digits_on most (c - 48) s) n h)
         | false ↦ λ is h. record {
-            front = []; rest = c ∷ s; parts = refl; left = cc; some = 0; more = decimal 0; fits = omega arith; goes_on = refl;
-            ends_here = λ d after z y b er q ends eq.
+          front = [];
+          rest = c ∷ s;
+          parts = refl;
+          left = cc;
+          some = 0;
+          more = decimal 0;
+          fits = omega arith;
+          goes_on = refl;
+          ends_here = λ d after z y b er q ends eq.
               let one = (tail_is c d s after er).0 in
               let read : number_at most (d ∷ z) ≡ Ok (digits_on most b y) = ap (number_at most) (sym eq) ∙ number_core most small b q y in
               let digit = first_digit_only most d z (digits_on most b y) read in
               let other : is_digit d ≡ false = ap is_digit (sym one) ∙ is in
               absurd cc;
-          }
+        }
       ] refl e

@@ -94,67 +94,71 @@ pub Reads-then : {A B C : Type 0} (f : A → B → C) (P1 : A → Type 0) (t1 : 
     → Then f P1 t1 r1 P2 t2 r2 t → Reads (Both f P1 P2) t (then_with f r1 r2)
 Reads-then {A} {B} {C} f P1 t1 r1 P2 t2 r2 t h = record {
   takes = λ s c e.
-    let (x, ex, e1) = bind_ok (r1 s) (λ x. r2 x.0 x.1 >>= λ y. Ok (f x.0 y.0, y.1)) c e in
-    let (y, ey, e2) = bind_ok (r2 x.0 x.1) (λ y. Ok (f x.0 y.0, y.1)) c e1 in
-    let one = h.first.takes s x ex in
-    let two = (h.second x.0 one.1).takes x.1 y ey in
-    let whole : s ≡ t (f x.0 y.0) ++ y.1 = one.0 ∙ ap (λ (u : List ℕ). t1 x.0 ++ u) two.0 ∙ sym (then_text f P1 t1 r1 P2 t2 r2 t h x.0 y.0 one.1 two.1 y.1) in
-    subst (λ (z : C × List ℕ). (s ≡ t z.0 ++ z.1) × Both f P1 P2 z.0) (ok_is (f x.0 y.0, y.1) c e2) (whole, (x.0, y.0, one.1, two.1, refl));
+      let (x, ex, e1) = bind_ok (r1 s) (λ x. r2 x.0 x.1 >>= λ y. Ok (f x.0 y.0, y.1)) c e in
+      let (y, ey, e2) = bind_ok (r2 x.0 x.1) (λ y. Ok (f x.0 y.0, y.1)) c e1 in
+      let one = h.first.takes s x ex in
+      let two = (h.second x.0 one.1).takes x.1 y ey in
+      let whole : s ≡ t (f x.0 y.0) ++ y.1 = one.0 ∙ ap (λ (u : List ℕ). t1 x.0 ++ u) two.0 ∙ sym (then_text f P1 t1 r1 P2 t2 r2 t h x.0 y.0 one.1 two.1 y.1) in
+      subst (λ (z : C × List ℕ). (s ≡ t z.0 ++ z.1) × Both f P1 P2 z.0) (ok_is (f x.0 y.0, y.1) c e2) (whole, (x.0, y.0, one.1, two.1, refl));
   again = λ c rest fits ends.
-    let (a, b, p1, p2, e) = fits in
-    let made = then_again f P1 t1 r1 P2 t2 r2 t h a b p1 p2 rest (h.first.again a (t2 a b ++ rest) p1 (h.leads a b rest ends)) ((h.second a p1).again b rest p2 ends) in
-    subst (λ (z : C). then_with f r1 r2 (t z ++ rest) ≡ Ok (z, rest)) (sym e) made;
+      let (a, b, p1, p2, e) = fits in
+      let made = then_again f P1 t1 r1 P2 t2 r2 t h a b p1 p2 rest (h.first.again a (t2 a b ++ rest) p1 (h.leads a b rest ends)) ((h.second a p1).again b rest p2 ends) in
+      subst (λ (z : C). then_with f r1 r2 (t z ++ rest) ≡ Ok (z, rest)) (sym e) made;
   here = λ s c other e same.
-    let (x, ex, e1) = bind_ok (r1 s) (λ x. r2 x.0 x.1 >>= λ y. Ok (f x.0 y.0, y.1)) c e in
-    let (y, ey, e2) = bind_ok (r2 x.0 x.1) (λ y. Ok (f x.0 y.0, y.1)) c e1 in
-    let one = h.first.takes s x ex in
-    let two = (h.second x.0 one.1).takes x.1 y ey in
-    let same_y : SameHead y.1 other = subst (λ (z : C × List ℕ). SameHead z.1 other) (sym (ok_is (f x.0 y.0, y.1) c e2)) same in
-    let same_x : SameHead x.1 (t2 x.0 y.0 ++ other) = subst (λ (u : List ℕ). SameHead u (t2 x.0 y.0 ++ other)) (sym two.0) (SameHead-append (t2 x.0 y.0) y.1 other same_y) in
-    let made = then_again f P1 t1 r1 P2 t2 r2 t h x.0 y.0 one.1 two.1 other (h.first.here s x (t2 x.0 y.0 ++ other) ex same_x) ((h.second x.0 one.1).here x.1 y other ey same_y) in
-    subst (λ (z : C × List ℕ). then_with f r1 r2 (t z.0 ++ other) ≡ Ok (z.0, other)) (ok_is (f x.0 y.0, y.1) c e2) made;
+      let (x, ex, e1) = bind_ok (r1 s) (λ x. r2 x.0 x.1 >>= λ y. Ok (f x.0 y.0, y.1)) c e in
+      let (y, ey, e2) = bind_ok (r2 x.0 x.1) (λ y. Ok (f x.0 y.0, y.1)) c e1 in
+      let one = h.first.takes s x ex in
+      let two = (h.second x.0 one.1).takes x.1 y ey in
+      let same_y : SameHead y.1 other = subst (λ (z : C × List ℕ). SameHead z.1 other) (sym (ok_is (f x.0 y.0, y.1) c e2)) same in
+      let same_x : SameHead x.1 (t2 x.0 y.0 ++ other) = subst (λ (u : List ℕ). SameHead u (t2 x.0 y.0 ++ other)) (sym two.0) (SameHead-append (t2 x.0 y.0) y.1 other same_y) in
+      let made = then_again f P1 t1 r1 P2 t2 r2 t h x.0 y.0 one.1 two.1 other (h.first.here s x (t2 x.0 y.0 ++ other) ex same_x) ((h.second x.0 one.1).here x.1 y other ey same_y) in
+      subst (λ (z : C × List ℕ). then_with f r1 r2 (t z.0 ++ other) ≡ Ok (z.0, other)) (ok_is (f x.0 y.0, y.1) c e2) made;
   stuck = λ s n e.
-    elim (bind_err (r1 s) (λ x. r2 x.0 x.1 >>= λ y. Ok (f x.0 y.0, y.1)) n e) [
-      | inl e1 ↦
-        let S = h.first.stuck s n e1 in
-        let (b, p2) = h.some S.some S.fits in
-        record {
-          front = S.front; rest = S.rest; parts = S.parts; left = S.left;
-          some = f S.some b;
-          more = S.more ++ t2 S.some b;
-          fits = (S.some, b, S.fits, p2, refl);
-          goes_on = h.texts S.some b S.fits p2 ∙ ap (λ (u : List ℕ). u ++ t2 S.some b) S.goes_on ∙ append_assoc S.front S.more (t2 S.some b);
-          ends_here = λ c after z y v er fits ends eq.
-            let (a, w, q1, q2, ev) = fits in
-            S.ends_here c after z (t2 a w ++ y) a er q1 (h.leads a w y ends) (sym (then_text f P1 t1 r1 P2 t2 r2 t h a w q1 q2 y) ∙ ap (λ (u : C). t u ++ y) (sym ev) ∙ eq);
-        }
-      | inr found ↦
-        let (x, ex, e2) = found in
-        let one = h.first.takes s x ex in
-        elim (bind_err (r2 x.0 x.1) (λ y. Ok (f x.0 y.0, y.1)) n e2) [
-          | inl e3 ↦
-            let S = (h.second x.0 one.1).stuck x.1 n e3 in
+      elim (bind_err (r1 s) (λ x. r2 x.0 x.1 >>= λ y. Ok (f x.0 y.0, y.1)) n e) [
+        | inl e1 ↦
+            let S = h.first.stuck s n e1 in
+            let (b, p2) = h.some S.some S.fits in
             record {
-              front = t1 x.0 ++ S.front; rest = S.rest;
-              parts = one.0 ∙ ap (λ (u : List ℕ). t1 x.0 ++ u) S.parts ∙ sym (append_assoc (t1 x.0) S.front S.rest);
+              front = S.front;
+              rest = S.rest;
+              parts = S.parts;
               left = S.left;
-              some = f x.0 S.some;
-              more = S.more;
-              fits = (x.0, S.some, one.1, S.fits, refl);
-              goes_on = h.texts x.0 S.some one.1 S.fits ∙ ap (λ (u : List ℕ). t1 x.0 ++ u) S.goes_on ∙ sym (append_assoc (t1 x.0) S.front S.more);
+              some = f S.some b;
+              more = S.more ++ t2 S.some b;
+              fits = (S.some, b, S.fits, p2, refl);
+              goes_on = h.texts S.some b S.fits p2 ∙ ap (λ (u : List ℕ). u ++ t2 S.some b) S.goes_on ∙ append_assoc S.front S.more (t2 S.some b);
               ends_here = λ c after z y v er fits ends eq.
-                let (a, w, q1, q2, ev) = fits in
-                let same_x : SameHead x.1 (S.front ++ c ∷ z) = subst (λ (u : List ℕ). SameHead u (S.front ++ c ∷ z)) (sym (S.parts ∙ ap (λ (u : List ℕ). S.front ++ u) er)) (SameHead-front S.front c after z) in
-                let texts : t1 a ++ (t2 a w ++ y) ≡ t1 x.0 ++ (S.front ++ c ∷ z) = sym (then_text f P1 t1 r1 P2 t2 r2 t h a w q1 q2 y) ∙ ap (λ (u : C). t u ++ y) (sym ev) ∙ eq ∙ append_assoc (t1 x.0) S.front (c ∷ z) in
-                let both : good (a, t2 a w ++ y) ≡ good (x.0, S.front ++ c ∷ z) = sym (h.first.again a (t2 a w ++ y) q1 (h.leads a w y ends)) ∙ ap r1 texts ∙ h.first.here s x (S.front ++ c ∷ z) ex same_x in
-                let pairs : (a, t2 a w ++ y) ≡ (x.0, S.front ++ c ∷ z) = ok_is (a, t2 a w ++ y) (x.0, S.front ++ c ∷ z) both in
-                let ea : a ≡ x.0 = ap (λ (p : A × List ℕ). p.0) pairs in
-                let et : t2 a w ++ y ≡ S.front ++ c ∷ z = ap (λ (p : A × List ℕ). p.1) pairs in
-                S.ends_here c after z y w er (subst (λ (u : A). P2 u w) ea q2) ends (subst (λ (u : A). t2 u w ++ y ≡ S.front ++ c ∷ z) ea et);
+                  let (a, w, q1, q2, ev) = fits in
+                  S.ends_here c after z (t2 a w ++ y) a er q1 (h.leads a w y ends) (sym (then_text f P1 t1 r1 P2 t2 r2 t h a w q1 q2 y) ∙ ap (λ (u : C). t u ++ y) (sym ev) ∙ eq);
             }
-          | inr other ↦ absurd (not_both _ n other.2)
-        ]
-    ];
+        | inr found ↦
+            let (x, ex, e2) = found in
+            let one = h.first.takes s x ex in
+            elim (bind_err (r2 x.0 x.1) (λ y. Ok (f x.0 y.0, y.1)) n e2) [
+              | inl e3 ↦
+                  let S = (h.second x.0 one.1).stuck x.1 n e3 in
+                  record {
+                    front = t1 x.0 ++ S.front;
+                    rest = S.rest;
+                    parts = one.0 ∙ ap (λ (u : List ℕ). t1 x.0 ++ u) S.parts ∙ sym (append_assoc (t1 x.0) S.front S.rest);
+                    left = S.left;
+                    some = f x.0 S.some;
+                    more = S.more;
+                    fits = (x.0, S.some, one.1, S.fits, refl);
+                    goes_on = h.texts x.0 S.some one.1 S.fits ∙ ap (λ (u : List ℕ). t1 x.0 ++ u) S.goes_on ∙ sym (append_assoc (t1 x.0) S.front S.more);
+                    ends_here = λ c after z y v er fits ends eq.
+                        let (a, w, q1, q2, ev) = fits in
+                        let same_x : SameHead x.1 (S.front ++ c ∷ z) = subst (λ (u : List ℕ). SameHead u (S.front ++ c ∷ z)) (sym (S.parts ∙ ap (λ (u : List ℕ). S.front ++ u) er)) (SameHead-front S.front c after z) in
+                        let texts : t1 a ++ (t2 a w ++ y) ≡ t1 x.0 ++ (S.front ++ c ∷ z) = sym (then_text f P1 t1 r1 P2 t2 r2 t h a w q1 q2 y) ∙ ap (λ (u : C). t u ++ y) (sym ev) ∙ eq ∙ append_assoc (t1 x.0) S.front (c ∷ z) in
+                        let both : good (a, t2 a w ++ y) ≡ good (x.0, S.front ++ c ∷ z) = sym (h.first.again a (t2 a w ++ y) q1 (h.leads a w y ends)) ∙ ap r1 texts ∙ h.first.here s x (S.front ++ c ∷ z) ex same_x in
+                        let pairs : (a, t2 a w ++ y) ≡ (x.0, S.front ++ c ∷ z) = ok_is (a, t2 a w ++ y) (x.0, S.front ++ c ∷ z) both in
+                        let ea : a ≡ x.0 = ap (λ (p : A × List ℕ). p.0) pairs in
+                        let et : t2 a w ++ y ≡ S.front ++ c ∷ z = ap (λ (p : A × List ℕ). p.1) pairs in
+                        S.ends_here c after z y w er (subst (λ (u : A). P2 u w) ea q2) ends (subst (λ (u : A). t2 u w ++ y ≡ S.front ++ c ∷ z) ea et);
+                  }
+              | inr other ↦ absurd (not_both _ n other.2)
+            ]
+      ];
 }
 
 -- ---- other values, texts and readers
@@ -166,50 +170,60 @@ Made {A} f P b = (a : A) × P a × (b ≡ f a)
 pub Reads-made : {A B : Type 0} (f : A → B) (P : A → Type 0) (t : A → List ℕ) (r : List ℕ → Read A) (u : B → List ℕ) → ((a : A) → u (f a) ≡ t a) → Reads P t r → Reads (Made f P) u (made_at f r)
 Reads-made {A} {B} f P t r u texts h = record {
   takes = λ s c e.
-    let (x, ex, e1) = bind_ok (r s) (λ x. Ok (f x.0, x.1)) c e in
-    let one = h.takes s x ex in
-    subst (λ (z : B × List ℕ). (s ≡ u z.0 ++ z.1) × Made f P z.0) (ok_is (f x.0, x.1) c e1) (one.0 ∙ ap (λ (v : List ℕ). v ++ x.1) (sym (texts x.0)), (x.0, one.1, refl));
+      let (x, ex, e1) = bind_ok (r s) (λ x. Ok (f x.0, x.1)) c e in
+      let one = h.takes s x ex in
+      subst (λ (z : B × List ℕ). (s ≡ u z.0 ++ z.1) × Made f P z.0) (ok_is (f x.0, x.1) c e1) (one.0 ∙ ap (λ (v : List ℕ). v ++ x.1) (sym (texts x.0)), (x.0, one.1, refl));
   again = λ c rest fits ends.
-    let (a, p, e) = fits in
-    let made : made_at f r (u (f a) ++ rest) ≡ Ok (f a, rest) = ap (λ (v : List ℕ). made_at f r (v ++ rest)) (texts a) ∙ bind_is (r (t a ++ rest)) (λ x. Ok (f x.0, x.1)) (a, rest) (h.again a rest p ends) in
-    subst (λ (z : B). made_at f r (u z ++ rest) ≡ Ok (z, rest)) (sym e) made;
+      let (a, p, e) = fits in
+      let made : made_at f r (u (f a) ++ rest) ≡ Ok (f a, rest) = ap (λ (v : List ℕ). made_at f r (v ++ rest)) (texts a) ∙ bind_is (r (t a ++ rest)) (λ x. Ok (f x.0, x.1)) (a, rest) (h.again a rest p ends) in
+      subst (λ (z : B). made_at f r (u z ++ rest) ≡ Ok (z, rest)) (sym e) made;
   here = λ s c other e same.
-    let (x, ex, e1) = bind_ok (r s) (λ x. Ok (f x.0, x.1)) c e in
-    let same_x : SameHead x.1 other = subst (λ (z : B × List ℕ). SameHead z.1 other) (sym (ok_is (f x.0, x.1) c e1)) same in
-    let made : made_at f r (u (f x.0) ++ other) ≡ Ok (f x.0, other) = ap (λ (v : List ℕ). made_at f r (v ++ other)) (texts x.0) ∙ bind_is (r (t x.0 ++ other)) (λ x. Ok (f x.0, x.1)) (x.0, other) (h.here s x other ex same_x) in
-    subst (λ (z : B × List ℕ). made_at f r (u z.0 ++ other) ≡ Ok (z.0, other)) (ok_is (f x.0, x.1) c e1) made;
+      let (x, ex, e1) = bind_ok (r s) (λ x. Ok (f x.0, x.1)) c e in
+      let same_x : SameHead x.1 other = subst (λ (z : B × List ℕ). SameHead z.1 other) (sym (ok_is (f x.0, x.1) c e1)) same in
+      let made : made_at f r (u (f x.0) ++ other) ≡ Ok (f x.0, other) = ap (λ (v : List ℕ). made_at f r (v ++ other)) (texts x.0) ∙ bind_is (r (t x.0 ++ other)) (λ x. Ok (f x.0, x.1)) (x.0, other) (h.here s x other ex same_x) in
+      subst (λ (z : B × List ℕ). made_at f r (u z.0 ++ other) ≡ Ok (z.0, other)) (ok_is (f x.0, x.1) c e1) made;
   stuck = λ s n e.
-    elim (bind_err (r s) (λ x. Ok (f x.0, x.1)) n e) [
-      | inl e1 ↦
-        let S = h.stuck s n e1 in
-        record {
-          front = S.front; rest = S.rest; parts = S.parts; left = S.left;
-          some = f S.some; more = S.more; fits = (S.some, S.fits, refl);
-          goes_on = texts S.some ∙ S.goes_on;
-          ends_here = λ c after z y v er fits ends eq.
-            let (a, p, e2) = fits in
-            S.ends_here c after z y a er p ends (ap (λ (w : List ℕ). w ++ y) (sym (texts a)) ∙ ap (λ (b : B). u b ++ y) (sym e2) ∙ eq);
-        }
-      | inr found ↦ absurd (not_both _ n found.2)
-    ];
+      elim (bind_err (r s) (λ x. Ok (f x.0, x.1)) n e) [
+        | inl e1 ↦
+            let S = h.stuck s n e1 in
+            record {
+              front = S.front;
+              rest = S.rest;
+              parts = S.parts;
+              left = S.left;
+              some = f S.some;
+              more = S.more;
+              fits = (S.some, S.fits, refl);
+              goes_on = texts S.some ∙ S.goes_on;
+              ends_here = λ c after z y v er fits ends eq.
+                  let (a, p, e2) = fits in
+                  S.ends_here c after z y a er p ends (ap (λ (w : List ℕ). w ++ y) (sym (texts a)) ∙ ap (λ (b : B). u b ++ y) (sym e2) ∙ eq);
+            }
+        | inr found ↦ absurd (not_both _ n found.2)
+      ];
 }
 
 -- the same under other names
 pub Reads-same : {A : Type 0} (P Q : A → Type 0) (t u : A → List ℕ) (r q : List ℕ → Read A) → ((a : A) → P a → Q a) → ((a : A) → Q a → P a) → ((a : A) → P a → u a ≡ t a) → ((s : List ℕ) → q s ≡ r s) → Reads P t r → Reads Q u q
 Reads-same {A} P Q t u r q there back texts readers h = record {
   takes = λ s x e.
-    let one = h.takes s x (sym (readers s) ∙ e) in
-    (one.0 ∙ ap (λ (v : List ℕ). v ++ x.1) (sym (texts x.0 one.1)), there x.0 one.1);
+      let one = h.takes s x (sym (readers s) ∙ e) in
+      (one.0 ∙ ap (λ (v : List ℕ). v ++ x.1) (sym (texts x.0 one.1)), there x.0 one.1);
   again = λ a rest p ends. ap (λ (v : List ℕ). q (v ++ rest)) (texts a (back a p)) ∙ readers (t a ++ rest) ∙ h.again a rest (back a p) ends;
   here = λ s x other e same. ap (λ (v : List ℕ). q (v ++ other)) (texts x.0 (h.takes s x (sym (readers s) ∙ e)).1) ∙ readers (t x.0 ++ other) ∙ h.here s x other (sym (readers s) ∙ e) same;
   stuck = λ s n e.
-    let S = h.stuck s n (sym (readers s) ∙ e) in
-    record {
-      front = S.front; rest = S.rest; parts = S.parts; left = S.left;
-      some = S.some; more = S.more; fits = there S.some S.fits;
-      goes_on = texts S.some S.fits ∙ S.goes_on;
-      ends_here = λ c after z y b er p ends eq. S.ends_here c after z y b er (back b p) ends (ap (λ (w : List ℕ). w ++ y) (sym (texts b (back b p))) ∙ eq);
-    };
+      let S = h.stuck s n (sym (readers s) ∙ e) in
+      record {
+        front = S.front;
+        rest = S.rest;
+        parts = S.parts;
+        left = S.left;
+        some = S.some;
+        more = S.more;
+        fits = there S.some S.fits;
+        goes_on = texts S.some S.fits ∙ S.goes_on;
+        ends_here = λ c after z y b er p ends eq. S.ends_here c after z y b er (back b p) ends (ap (λ (w : List ℕ). w ++ y) (sym (texts b (back b p))) ∙ eq);
+      };
 }
 
 -- one value without a text
@@ -250,6 +264,7 @@ Reads-byte {A} b P t r some p h = record {
         | true ↦ λ same e1. let one = h.takes s x e1 in (ap (λ (d : ℕ). d ∷ s) (eqb_is c b same) ∙ ap (λ (v : List ℕ). b ∷ v) one.0, one.1)
         | false ↦ λ same e1. absurd cc
       ] refl e
+
   byte_here : (s : List ℕ) (x : A × List ℕ) (other : List ℕ) → byte_then b r s ≡ Ok x → SameHead x.1 other → byte_then b r (b ∷ (t x.0 ++ other)) ≡ Ok (x.0, other)
   byte_here [] x other e same = absurd cc
   byte_here (c ∷ s) x other e same =
@@ -257,36 +272,57 @@ Reads-byte {A} b P t r some p h = record {
         | true ↦ λ same_byte e1. rw (eqb_same b) (h.here s x other e1 same)
         | false ↦ λ same_byte e1. absurd cc
       ] refl e
+
   byte_stuck : (s : List ℕ) (n : ℕ) → byte_then b r s ≡ Err n → Stuck P (λ a. b ∷ t a) s n
   byte_stuck [] n e = record {
-    front = []; rest = []; parts = refl; left = cc; some = some; more = b ∷ t some; fits = p; goes_on = refl;
+    front = [];
+    rest = [];
+    parts = refl;
+    left = cc;
+    some = some;
+    more = b ∷ t some;
+    fits = p;
+    goes_on = refl;
     ends_here = λ c after z y a er q ends eq. absurd cc;
   }
   byte_stuck (c ∷ s) n e =
       elim (eqb c b) as (λ v. eqb c b ≡ v → cond v (r s) (Err (suc (length s))) ≡ Err n → Stuck P (λ a. b ∷ t a) (c ∷ s) n) [
         | true ↦ λ same e1.
-          let S = h.stuck s n e1 in
-          record {
-            front = b ∷ S.front; rest = S.rest; parts = ap (λ (d : ℕ). d ∷ s) (eqb_is c b same) ∙ ap (λ (v : List ℕ). b ∷ v) S.parts; left = S.left;
-            some = S.some; more = S.more; fits = S.fits; goes_on = ap (λ (v : List ℕ). b ∷ v) S.goes_on;
-            ends_here = λ d after z y a er q ends eq. S.ends_here d after z y a er q ends (tail_is b b (t a ++ y) (S.front ++ d ∷ z) eq).1;
-          }
+            let S = h.stuck s n e1 in
+            record {
+              front = b ∷ S.front;
+              rest = S.rest;
+              parts = ap (λ (d : ℕ). d ∷ s) (eqb_is c b same) ∙ ap (λ (v : List ℕ). b ∷ v) S.parts;
+              left = S.left;
+              some = S.some;
+              more = S.more;
+              fits = S.fits;
+              goes_on = ap (λ (v : List ℕ). b ∷ v) S.goes_on;
+              ends_here = λ d after z y a er q ends eq. S.ends_here d after z y a er q ends (tail_is b b (t a ++ y) (S.front ++ d ∷ z) eq).1;
+            }
         | false ↦ λ differs e1.
-          record {
-            front = []; rest = c ∷ s; parts = refl; left = cc; some = some; more = b ∷ t some; fits = p; goes_on = refl;
-            ends_here = λ d after z y a er q ends eq.
-              let one = (tail_is c d s after er).0 in
-              let two = (tail_is b d (t a ++ y) z eq).0 in
-              let same : eqb c b ≡ true = ap (λ (k : ℕ). eqb k b) (one ∙ sym two) ∙ eqb_same b in
-              absurd cc;
-          }
+            record {
+              front = [];
+              rest = c ∷ s;
+              parts = refl;
+              left = cc;
+              some = some;
+              more = b ∷ t some;
+              fits = p;
+              goes_on = refl;
+              ends_here = λ d after z y a er q ends eq.
+                  let one = (tail_is c d s after er).0 in
+                  let two = (tail_is b d (t a ++ y) z eq).0 in
+                  let same : eqb c b ≡ true = ap (λ (k : ℕ). eqb k b) (one ∙ sym two) ∙ eqb_same b in
+                  absurd cc;
+            }
       ] refl e
 
 pub Reads-word : {A : Type 0} (word : List ℕ) (P : A → Type 0) (t : A → List ℕ) (r : List ℕ → Read A) → (a : A) → P a → Reads P t r → Reads P (λ a. word ++ t a) (λ s. word_at word s >>= r)
 Reads-word [] P t r a p h = h
 Reads-word {A} (b ∷ word) P t r a p h =
     Reads-same P P (λ x. b ∷ (word ++ t x)) (λ x. b ∷ (word ++ t x)) (byte_then b (λ s. word_at word s >>= r)) (λ s. word_at (b ∷ word) s >>= r) (λ x q. q) (λ x q. q) (λ x q. refl) readers
-        (Reads-byte b P (λ x. word ++ t x) (λ s. word_at word s >>= r) a p (Reads-word word P t r a p h))
+    (Reads-byte b P (λ x. word ++ t x) (λ s. word_at word s >>= r) a p (Reads-word word P t r a p h))
   where
     readers : (s : List ℕ) → (word_at (b ∷ word) s >>= r) ≡ byte_then b (λ s. word_at word s >>= r) s
     readers [] = refl
@@ -310,51 +346,65 @@ same_starts k (c ∷ u) (d ∷ v) h = ap (λ (x : ℕ). eqb x k) h
 pub Reads-choice : {A : Type 0} (k : ℕ) (P Q : A → Type 0) (t : A → List ℕ) (r q : List ℕ → Read A) → Heads k true P t → Heads k false Q t → Reads P t r → Reads Q t q → Reads (λ a. P a ⊎ Q a) t (λ s. cond (starts k s) (r s) (q s))
 Reads-choice {A} k P Q t r q hp hq rp rq = record {
   takes = λ s x e.
-    elim (starts k s) as (λ v. cond v (r s) (q s) ≡ Ok x → (s ≡ t x.0 ++ x.1) × (P x.0 ⊎ Q x.0)) [
-      | true ↦ λ e1. let one = rp.takes s x e1 in (one.0, inl one.1)
-      | false ↦ λ e1. let one = rq.takes s x e1 in (one.0, inr one.1)
-    ] e;
+      elim (starts k s) as (λ v. cond v (r s) (q s) ≡ Ok x → (s ≡ t x.0 ++ x.1) × (P x.0 ⊎ Q x.0)) [
+        | true ↦ λ e1. let one = rp.takes s x e1 in (one.0, inl one.1)
+        | false ↦ λ e1. let one = rq.takes s x e1 in (one.0, inr one.1)
+      ] e;
   again = λ a rest fits ends.
-    elim fits [
-      | inl p ↦ rw (head_starts k true P t hp a p rest) (rp.again a rest p ends)
-      | inr p ↦ rw (head_starts k false Q t hq a p rest) (rq.again a rest p ends)
-    ];
+      elim fits [
+        | inl p ↦ rw (head_starts k true P t hp a p rest) (rp.again a rest p ends)
+        | inr p ↦ rw (head_starts k false Q t hq a p rest) (rq.again a rest p ends)
+      ];
   here = λ s x other e same.
-    elim (starts k s) as (λ v. cond v (r s) (q s) ≡ Ok x → cond (starts k (t x.0 ++ other)) (r (t x.0 ++ other)) (q (t x.0 ++ other)) ≡ Ok (x.0, other)) [
-      | true ↦ λ e1. rw (head_starts k true P t hp x.0 (rp.takes s x e1).1 other) (rp.here s x other e1 same)
-      | false ↦ λ e1. rw (head_starts k false Q t hq x.0 (rq.takes s x e1).1 other) (rq.here s x other e1 same)
-    ] e;
+      elim (starts k s) as (λ v. cond v (r s) (q s) ≡ Ok x → cond (starts k (t x.0 ++ other)) (r (t x.0 ++ other)) (q (t x.0 ++ other)) ≡ Ok (x.0, other)) [
+        | true ↦ λ e1. rw (head_starts k true P t hp x.0 (rp.takes s x e1).1 other) (rp.here s x other e1 same)
+        | false ↦ λ e1. rw (head_starts k false Q t hq x.0 (rq.takes s x e1).1 other) (rq.here s x other e1 same)
+      ] e;
   stuck = λ s n e.
-    elim (starts k s) as (λ v. starts k s ≡ v → cond v (r s) (q s) ≡ Err n → Stuck (λ a. P a ⊎ Q a) t s n) [
-      | true ↦ λ is e1.
-        let S = rp.stuck s n e1 in
-        record {
-          front = S.front; rest = S.rest; parts = S.parts; left = S.left; some = S.some; more = S.more; fits = inl S.fits; goes_on = S.goes_on;
-          ends_here = λ c after z y b er fits ends eq.
-            elim fits [
-              | inl p ↦ S.ends_here c after z y b er p ends eq
-              | inr p ↦
-                let same = same_starts k (S.front ++ c ∷ after) (S.front ++ c ∷ z) (SameHead-front S.front c after z) in
-                let whole : s ≡ S.front ++ c ∷ after = S.parts ∙ ap (λ (u : List ℕ). S.front ++ u) er in
-                let one : true ≡ false = sym is ∙ ap (starts k) whole ∙ same ∙ ap (starts k) (sym eq) ∙ head_starts k false Q t hq b p y in
-                absurd cc
-            ];
-        }
-      | false ↦ λ is e1.
-        let S = rq.stuck s n e1 in
-        record {
-          front = S.front; rest = S.rest; parts = S.parts; left = S.left; some = S.some; more = S.more; fits = inr S.fits; goes_on = S.goes_on;
-          ends_here = λ c after z y b er fits ends eq.
-            elim fits [
-              | inr p ↦ S.ends_here c after z y b er p ends eq
-              | inl p ↦
-                let same = same_starts k (S.front ++ c ∷ after) (S.front ++ c ∷ z) (SameHead-front S.front c after z) in
-                let whole : s ≡ S.front ++ c ∷ after = S.parts ∙ ap (λ (u : List ℕ). S.front ++ u) er in
-                let one : false ≡ true = sym is ∙ ap (starts k) whole ∙ same ∙ ap (starts k) (sym eq) ∙ head_starts k true P t hp b p y in
-                absurd cc
-            ];
-        }
-    ] refl e;
+      elim (starts k s) as (λ v. starts k s ≡ v → cond v (r s) (q s) ≡ Err n → Stuck (λ a. P a ⊎ Q a) t s n) [
+        | true ↦ λ is e1.
+            let S = rp.stuck s n e1 in
+            record {
+              front = S.front;
+              rest = S.rest;
+              parts = S.parts;
+              left = S.left;
+              some = S.some;
+              more = S.more;
+              fits = inl S.fits;
+              goes_on = S.goes_on;
+              ends_here = λ c after z y b er fits ends eq.
+                  elim fits [
+                    | inl p ↦ S.ends_here c after z y b er p ends eq
+                    | inr p ↦
+                        let same = same_starts k (S.front ++ c ∷ after) (S.front ++ c ∷ z) (SameHead-front S.front c after z) in
+                        let whole : s ≡ S.front ++ c ∷ after = S.parts ∙ ap (λ (u : List ℕ). S.front ++ u) er in
+                        let one : true ≡ false = sym is ∙ ap (starts k) whole ∙ same ∙ ap (starts k) (sym eq) ∙ head_starts k false Q t hq b p y in
+                        absurd cc
+                  ];
+            }
+        | false ↦ λ is e1.
+            let S = rq.stuck s n e1 in
+            record {
+              front = S.front;
+              rest = S.rest;
+              parts = S.parts;
+              left = S.left;
+              some = S.some;
+              more = S.more;
+              fits = inr S.fits;
+              goes_on = S.goes_on;
+              ends_here = λ c after z y b er fits ends eq.
+                  elim fits [
+                    | inr p ↦ S.ends_here c after z y b er p ends eq
+                    | inl p ↦
+                        let same = same_starts k (S.front ++ c ∷ after) (S.front ++ c ∷ z) (SameHead-front S.front c after z) in
+                        let whole : s ≡ S.front ++ c ∷ after = S.parts ∙ ap (λ (u : List ℕ). S.front ++ u) er in
+                        let one : false ≡ true = sym is ∙ ap (starts k) whole ∙ same ∙ ap (starts k) (sym eq) ∙ head_starts k true P t hp b p y in
+                        absurd cc
+                  ];
+            }
+      ] refl e;
 }
 
 -- ---- so many, one behind the other
@@ -379,26 +429,30 @@ Reads-items {A} P t r leads a p h zero =
     there : (xs : List A) → xs ≡ [] → AreItems P 0 xs
     there [] e = (refl, tt)
     there (x ∷ xs) e = absurd cc
+
     back : (xs : List A) → AreItems P 0 xs → xs ≡ []
     back [] h = refl
     back (x ∷ xs) h = absurd (omega arith)
+
     texts : (xs : List A) → xs ≡ [] → flat_map t xs ≡ []
     texts [] e = refl
     texts (x ∷ xs) e = absurd cc
 Reads-items {A} P t r leads a p h (suc n) =
     Reads-same (Both cons P (λ x xs. AreItems P n xs)) (AreItems P (suc n)) (flat_map t) (flat_map t) (then_with cons r (λ x. items_at r n)) (items_at r (suc n)) there back (λ xs e. refl) (λ s. refl)
-        (Reads-then cons P t r (λ x xs. AreItems P n xs) (λ x. flat_map t) (λ x. items_at r n) (flat_map t) record {
-          first = h;
-          second = λ x q. Reads-items P t r leads a p h n;
-          leads = λ x xs rest ends. flat_map_leads t leads xs rest ends;
-          some = λ x q. some_items P a p n;
-          texts = λ x xs p q. refl;
-        })
+    (Reads-then cons P t r (λ x xs. AreItems P n xs) (λ x. flat_map t) (λ x. items_at r n) (flat_map t) record {
+      first = h;
+      second = λ x q. Reads-items P t r leads a p h n;
+      leads = λ x xs rest ends. flat_map_leads t leads xs rest ends;
+      some = λ x q. some_items P a p n;
+      texts = λ x xs p q. refl;
+    })
   where
     cons : A → List A → List A
     cons x xs = x ∷ xs
+
     there : (xs : List A) → Both cons P (λ x xs. AreItems P n xs) xs → AreItems P (suc n) xs
     there xs (y, ys, q, all, e) = subst (AreItems P (suc n)) (sym e) (ap suc all.0, (q, all.1))
+
     back : (xs : List A) → AreItems P (suc n) xs → Both cons P (λ x xs. AreItems P n xs) xs
     back [] h = absurd (omega arith)
     back (x ∷ xs) h = (x, xs, h.1.0, (omega arith, h.1.1), refl)

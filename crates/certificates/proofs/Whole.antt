@@ -160,7 +160,14 @@ record Stops (s : List ℕ) (n : ℕ) : Type 0 where
 
 stops_of_stuck : (s : List ℕ) (n : ℕ) → Stuck AreFindings finding_text s n → Stops s n
 stops_of_stuck s n S = record {
-  front = S.front; rest = S.rest; parts = S.parts; left = S.left; some = S.some; more = S.more; fits = readable S.some S.fits; goes_on = S.goes_on;
+  front = S.front;
+  rest = S.rest;
+  parts = S.parts;
+  left = S.left;
+  some = S.some;
+  more = S.more;
+  fits = readable S.some S.fits;
+  goes_on = S.goes_on;
   ends_here = λ c after z f er fits eq. S.ends_here c after z [] f er (reader_reads f fits) tt (append-nil (finding_text f) ∙ eq);
 }
 
@@ -170,19 +177,26 @@ whole_stops s n e =
     elim (bind_err (finding_at s) at_end n e) [
       | inl e1 ↦ stops_of_stuck s n (Reads-finding.stuck s n e1)
       | inr found ↦
-        let (x, ex, e1) = found in
-        let one = Reads-finding.takes s x ex in
-        let (c, more, is, left) = end_err x n e1 in
-        record {
-          front = finding_text x.0; rest = x.1; parts = one.0; left = left; some = x.0; more = []; fits = readable x.0 one.1; goes_on = sym (append-nil (finding_text x.0));
-          ends_here = λ d after z f er fits eq.
-            let same : SameHead x.1 (d ∷ z) = subst (λ (v : List ℕ). SameHead v (d ∷ z)) (sym er) refl in
-            let here = Reads-finding.here s x (d ∷ z) ex same in
-            let again = Reads-finding.again f [] (reader_reads f fits) tt in
-            let both = sym again ∙ ap finding_at (append-nil (finding_text f) ∙ eq) ∙ here in
-            let rests : [] ≡ d ∷ z = ap (λ (y : Finding × List ℕ). y.1) (ok_is (f, []) (x.0, d ∷ z) both) in
-            absurd cc;
-        }
+          let (x, ex, e1) = found in
+          let one = Reads-finding.takes s x ex in
+          let (c, more, is, left) = end_err x n e1 in
+          record {
+            front = finding_text x.0;
+            rest = x.1;
+            parts = one.0;
+            left = left;
+            some = x.0;
+            more = [];
+            fits = readable x.0 one.1;
+            goes_on = sym (append-nil (finding_text x.0));
+            ends_here = λ d after z f er fits eq.
+                let same : SameHead x.1 (d ∷ z) = subst (λ (v : List ℕ). SameHead v (d ∷ z)) (sym er) refl in
+                let here = Reads-finding.here s x (d ∷ z) ex same in
+                let again = Reads-finding.again f [] (reader_reads f fits) tt in
+                let both = sym again ∙ ap finding_at (append-nil (finding_text f) ∙ eq) ∙ here in
+                let rests : [] ≡ d ∷ z = ap (λ (y : Finding × List ℕ). y.1) (ok_is (f, []) (x.0, d ∷ z) both) in
+                absurd cc;
+          }
     ]
 
 front_of : (front rest : List ℕ) → take (length front) (front ++ rest) ≡ front
@@ -201,8 +215,8 @@ whole_fault s n e =
       within = omega arith;
       begins = (S.some, S.more, S.fits, S.goes_on ∙ ap (λ (v : List ℕ). v ++ S.more) (sym front));
       longest = λ longer less within begins.
-        let (f, z, fits, is) = begins in
-        past S longer (omega arith) (omega arith) f z fits is;
+          let (f, z, fits, is) = begins in
+          past S longer (omega arith) (omega arith) f z fits is;
     }
   where
     past : (S : Stops s n) (longer : ℕ) → length S.front < longer → longer ≤ length S.front + length S.rest → (f : Finding) (z : List ℕ) → IsReadable f → finding_text f ≡ take longer s ++ z → ⊥
