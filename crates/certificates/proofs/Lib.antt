@@ -3,3 +3,4 @@ pub mod Readers
 pub mod Numbers
 pub mod Findings
 pub mod Whole
+pub mod Loops

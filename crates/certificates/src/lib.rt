@@ -8,10 +8,13 @@
 #![tactic(auto)]
 
 mod fault;
+mod lists;
+mod reading;
 mod stop;
 mod words;
 mod writing;
 
 pub use fault::FindingFault;
 pub use finding_definitions::{Finding, Measure, Parts, Stage, Stakes, WideAt};
+pub use reading::read_finding;
 pub use writing::put_finding;
