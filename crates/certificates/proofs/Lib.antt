@@ -4,3 +4,4 @@ pub mod Numbers
 pub mod Findings
 pub mod Whole
 pub mod Loops
+pub mod Lengths

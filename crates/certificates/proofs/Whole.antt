@@ -229,3 +229,9 @@ whole_fault s n e =
             let count : longer ≡ length S.front + suc k = omega arith in
             let shown : take longer s ≡ S.front ++ c ∷ take k after = ap (λ (j : ℕ). take j s) count ∙ ap (take (length S.front + suc k)) (S.parts ∙ ap (λ (v : List ℕ). S.front ++ v) er) ∙ take-append-add S.front (c ∷ after) (suc k) in
             S.ends_here c after (take k after ++ z) f er fits (is ∙ ap (λ (v : List ℕ). v ++ z) shown ∙ append_assoc S.front (c ∷ take k after) z)
+
+-- no more bytes are left than the text has
+pub left_within : (s : List ℕ) (n : ℕ) → whole_at s ≡ Err n → n ≤ length s
+left_within s n e =
+    let S = whole_stops s n e in
+    omega (arith, S.left, ap length S.parts, length-append S.front S.rest)
