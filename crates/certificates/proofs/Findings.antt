@@ -1,6 +1,6 @@
 -- The reader of findings reads the texts of readable findings.
-use Rattle.std.proofs.Common.{ℕ, zero, suc, ◌≡◌, ◌+◌, ◌-◌, ◌^◌, ◌≤◌, ◌<◌, Bool, true, false, cond, eqb, ◌⊎◌, inl, inr, List, [], ◌∷◌, ◌++◌, length, refl, sym, ap, subst, ◌∙◌, arith, append_assoc, decimal, lit<, lit≤}
-use Rattle.std.specs.Prelude.{Result, Ok, Err, codes}
+use Rattle.std.proofs.Common.{ℕ, ◌≡◌, ◌^◌, ◌≤◌, ◌<◌, false, cond, eqb, ◌⊎◌, inl, inr, List, [], ◌∷◌, ◌++◌, length, refl, sym, ap, subst, ◌∙◌, arith, decimal, lit<, lit≤}
+use Rattle.std.specs.Prelude.{Ok, codes}
 use Rattle.std.specs.List.{flat_map, AllByRecursion}
 use Rattle.std.proofs.lemmas.Fmt.{decimal_digit}
 use Rattle.std.proofs.lemmas.List.{append-nil}
@@ -14,7 +14,7 @@ use Rattle.finding_definitions.specs.declared.finding.WideAt.TheVariants.{Entry,
 use Rattle.finding_definitions.specs.declared.finding.Finding.{Finding}
 use Rattle.finding_definitions.specs.declared.finding.Finding.TheVariants.{Arb, Coherent, Thin, Narrow, Wide, OutOfPivots}
 use Rattle.finding_definitions.specs.Fractions.{Fractions}
-use Rattle.finding_definitions.specs.Text.{outcome_fields, entry_fields, stake_fields, measure_fields, fraction_fields, stage_number, run_fields, place_fields, finding_fields, finding_text}
+use Rattle.finding_definitions.specs.Text.{outcome_fields, entry_fields, stake_fields, measure_fields, fraction_fields, stage_number, run_fields, place_fields, finding_text}
 use Rattle.certificates.specs.Written.{spaced}
 use Rattle.certificates.specs.Reading.{Read, ◌>>=◌, word_at, starts, number_at, field_at, items_at, counted_at, MOST_SHORT, MOST_LONG, stakes_at, parts_at, pair_at, outcome_at, entry_at, measure_at, bound_at, stage_at, run_at, one_at, place_at, wide_at, made_at, finding_at}
 use Rattle.certificates.proofs.Writes.{join_spaced, spaced-append, pair_shape, one_shape, numbers_shape, number_shape, counted_shape}

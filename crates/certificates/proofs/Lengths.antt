@@ -1,5 +1,5 @@
 -- The text of a readable finding is short, so that a place in it fits 32 bits.
-use Rattle.std.proofs.Common.{ℕ, ◌≡◌, ◌+◌, ◌-◌, ◌*◌, ◌^◌, ◌≤◌, ◌<◌, List, [], ◌∷◌, ◌++◌, length, take, All, refl, sym, ap, subst, ◌∙◌, arith, decimal, lit<}
+use Rattle.std.proofs.Common.{ℕ, ◌≡◌, ◌+◌, ◌*◌, ◌^◌, ◌≤◌, ◌<◌, List, [], ◌∷◌, ◌++◌, length, take, All, refl, ap, arith, decimal, lit<}
 use Rattle.std.specs.Prelude.{codes}
 use Rattle.std.specs.List.{flat_map, AllByRecursion}
 use Rattle.std.proofs.lemmas.Fmt.{length-decimal-le}
@@ -7,7 +7,7 @@ use Rattle.std.proofs.lemmas.List.{length-append, length-take-le}
 use Rattle.std.proofs.lemmas.List.Elements.{recursion_from_All}
 use Rattle.scan_types.specs.declared.outcome.Outcome.{Outcome}
 use Rattle.scan_types.specs.declared.outcome.Outcome.TheVariants.{Full, Abandoned}
-use Rattle.scan_types.specs.declared.limits.TheConstants.{MOST_OFFERS, MOST_MEASURE_ENTRIES}
+use Rattle.scan_types.specs.declared.limits.TheConstants.{MOST_OFFERS}
 use Rattle.finding_definitions.specs.declared.finding.Stage.{Stage}
 use Rattle.finding_definitions.specs.declared.finding.Stage.TheVariants.{First, Slack, Plain}
 use Rattle.finding_definitions.specs.declared.finding.WideAt.{WideAt}
@@ -15,7 +15,7 @@ use Rattle.finding_definitions.specs.declared.finding.WideAt.TheVariants.{Entry,
 use Rattle.finding_definitions.specs.declared.finding.Finding.{Finding}
 use Rattle.finding_definitions.specs.declared.finding.Finding.TheVariants.{Arb, Coherent, Thin, Narrow, Wide, OutOfPivots}
 use Rattle.finding_definitions.specs.Fractions.{Fractions}
-use Rattle.finding_definitions.specs.Text.{outcome_fields, entry_fields, stake_fields, measure_fields, fraction_fields, stage_number, run_fields, place_fields, finding_fields, finding_text}
+use Rattle.finding_definitions.specs.Text.{outcome_fields, entry_fields, stake_fields, measure_fields, fraction_fields, stage_number, run_fields, place_fields, finding_text}
 use Rattle.finding_definitions.specs.Readable.{IsShort, IsLong, AreReadableParts, IsReadableOutcome, IsReadableMeasure, IsReadablePlace, IsReadable, IsFaultAt}
 use Rattle.certificates.specs.Written.{spaced}
 use Rattle.certificates.proofs.Writes.{join_spaced, spaced-append, pair_shape, one_shape, numbers_shape, number_shape, counted_shape}

@@ -1,9 +1,9 @@
 -- A whole text: it is read exactly if it is a readable finding's, and else the fault is where it stops beginning one.
-use Rattle.std.proofs.Common.{ℕ, zero, suc, ◌≡◌, ◌+◌, ◌-◌, ◌^◌, ◌≤◌, ◌<◌, Bool, true, false, cond, eqb, ◌⊎◌, inl, inr, List, [], ◌∷◌, ◌++◌, length, take, All, refl, sym, ap, subst, ◌∙◌, arith, append_assoc}
+use Rattle.std.proofs.Common.{ℕ, suc, ◌≡◌, ◌+◌, ◌-◌, ◌≤◌, ◌<◌, Bool, true, false, cond, eqb, inl, inr, List, [], ◌∷◌, ◌++◌, length, take, All, refl, sym, ap, subst, ◌∙◌, arith, append_assoc}
 use Rattle.std.specs.Prelude.{Result, Ok, Err}
 use Rattle.std.specs.List.{AllByRecursion}
 use Rattle.std.proofs.lemmas.Bool.Decides.{nat_tests}
-use Rattle.std.proofs.lemmas.List.{append-nil, length-append, take-append-drop}
+use Rattle.std.proofs.lemmas.List.{append-nil, length-append}
 use Rattle.std.proofs.lemmas.List.Elements.{All-from_recursion, recursion_from_All}
 use Rattle.std.proofs.Math.Seq.{take-append_seam, take-append-add}
 use Rattle.scan_types.specs.declared.outcome.Outcome.{Outcome}
@@ -16,10 +16,10 @@ use Rattle.finding_definitions.specs.declared.finding.Finding.{Finding}
 use Rattle.finding_definitions.specs.declared.finding.Finding.TheVariants.{Arb, Coherent, Thin, Narrow, Wide, OutOfPivots}
 use Rattle.finding_definitions.specs.Fractions.{Fractions}
 use Rattle.finding_definitions.specs.Text.{finding_text}
-use Rattle.finding_definitions.specs.Readable.{IsShort, IsLong, AreReadableStakes, AreReadableParts, IsReadableOutcome, IsReadableMeasure, IsReadablePlace, IsReadable, BeginsFinding, IsFaultAt}
-use Rattle.certificates.specs.Reading.{Read, ◌>>=◌, MOST_SHORT, MOST_LONG, finding_at, whole_at}
-use Rattle.certificates.proofs.Readers.{Ends, Stuck, Reads, SameHead, bind_ok, bind_err, ok_is, not_both, bind_is}
-use Rattle.certificates.proofs.Findings.{AtMost, AreFew, AreStakes, AreParts, AreOutcomes, AreEntries, AreMeasures, AreRuns, ArePlaces, AreStages, AreFindings, every_stage, Reads-finding}
+use Rattle.finding_definitions.specs.Readable.{IsShort, IsLong, AreReadableParts, IsReadableOutcome, IsReadableMeasure, IsReadablePlace, IsReadable, IsFaultAt}
+use Rattle.certificates.specs.Reading.{MOST_SHORT, MOST_LONG, finding_at, whole_at}
+use Rattle.certificates.proofs.Readers.{Stuck, SameHead, bind_ok, bind_err, ok_is, not_both, bind_is}
+use Rattle.certificates.proofs.Findings.{AtMost, AreFew, AreParts, AreOutcomes, AreEntries, AreMeasures, AreRuns, ArePlaces, AreFindings, every_stage, Reads-finding}
 
 -- ---- the reader's parts are the readable ones
 

@@ -1,6 +1,5 @@
-use Rattle.std.proofs.Common.{◌≡◌, ◌++◌, ◌∷◌, []}
 use Rattle.std.proofs.lemmas.Result.{err_from_is_err_and}
-use Rattle.certificates.specs.Reading.{field_at, items_at, entry_at, MOST_SHORT, MOST_LONG}
+use Rattle.certificates.specs.Reading.{field_at, items_at, MOST_LONG}
 use Rattle.certificates.proofs.Loops.{goes_on, ends, is_done}
 use Rattle.certificates.proofs.lists.long_items.Goals as goal
 

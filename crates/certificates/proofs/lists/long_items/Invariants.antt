@@ -1,5 +1,5 @@
 use Rattle.std.proofs.Common.{◌≡◌, ◌-◌}
-use Rattle.certificates.specs.Reading.{field_at, items_at, entry_at, MOST_SHORT, MOST_LONG}
+use Rattle.certificates.specs.Reading.{field_at, items_at, MOST_LONG}
 use Rattle.certificates.proofs.Loops.{with_front}
 use Rattle.certificates.proofs.lists.long_items.Given as goal
 

@@ -1,5 +1,5 @@
-use Rattle.std.proofs.Common.{rules, ◌≡◌, ◌-◌, ◌<◌, ◌^◌, length, sym, ◌∙◌, arith}
-use Rattle.std.specs.Prelude.{Ok, Err}
+use Rattle.std.proofs.Common.{rules, ◌≡◌, ◌-◌, ◌<◌, ◌^◌, length, sym, ◌∙◌}
+use Rattle.std.specs.Prelude.{Err}
 use Rattle.certificates.specs.Reading.{whole_at}
 use Rattle.certificates.proofs.Readers.{ok_is, not_both}
 use Rattle.certificates.proofs.Whole.{whole_takes, whole_again, whole_fault, left_within}
