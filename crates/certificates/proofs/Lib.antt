@@ -1,1 +1,7 @@
 pub mod Writes
+pub mod Readers
+pub mod Numbers
+pub mod Findings
+pub mod Whole
+pub mod Loops
+pub mod Lengths

@@ -1,1 +1,4 @@
 pub mod Written
+pub mod Reading
+pub mod Gives
+pub mod Faults

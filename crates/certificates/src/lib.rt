@@ -7,7 +7,14 @@
 //! The types of findings and all definitions stand in `finding_definitions`; the types are given on here.
 #![tactic(auto)]
 
+mod fault;
+mod lists;
+mod reading;
+mod stop;
+mod words;
 mod writing;
 
+pub use fault::FindingFault;
 pub use finding_definitions::{Finding, Measure, Parts, Stage, Stakes, WideAt};
+pub use reading::read_finding;
 pub use writing::put_finding;

@@ -1,11 +1,8 @@
-use Rattle.std.proofs.Common.{ℕ, ◌≡◌, List, [], ◌∷◌, ◌++◌, ◌+◌, take, drop, length, refl, sym, ap, ◌∙◌, append_assoc, decimal}
-use Rattle.std.specs.Prelude.{Ok, codes}
+use Rattle.std.proofs.Common.{ℕ, ◌≡◌, List, [], ◌∷◌, ◌++◌, length, ap, ◌∙◌, append_assoc, decimal}
 use Rattle.std.specs.List.{flat_map}
-use Rattle.std.proofs.lemmas.List.{append-nil}
-use Rattle.scan_types.specs.declared.outcome.Outcome.{Outcome}
-use Rattle.finding_definitions.specs.Text.{outcome_fields, entry_fields, stake_fields, measure_fields, fraction_fields, run_fields, place_fields, finding_fields, stage_number}
-use Rattle.certificates.specs.Written.{Wrote, spaced}
-use Rattle.certificates.proofs.Writes.{and_then, cut, same_text, nothing, join_spaced, spaced-append, spaced-flat_map, flat_map_take, flat_map_rest, flat_map_all, pair_shape, one_shape, numbers_shape, number_shape, counted_shape}
+use Rattle.finding_definitions.specs.Text.{stake_fields}
+use Rattle.certificates.specs.Written.{spaced}
+use Rattle.certificates.proofs.Writes.{and_then, cut, same_text, number_shape, counted_shape}
 use Rattle.certificates.proofs.writing.put_parts.Goals as goal
 
 shape : (d divisor : ℕ) (items parts : List ℕ) → d ≡ divisor → items ≡ parts → ((32 ∷ decimal d) ++ (32 ∷ decimal (length items))) ++ flat_map (λ (item : ℕ). 32 ∷ decimal item) items ≡ spaced (decimal divisor ∷ stake_fields parts)
