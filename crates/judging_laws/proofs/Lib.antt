@@ -1,2 +1,4 @@
 pub mod FlatRows
 pub mod ProgramRows
+pub mod Weights
+pub mod Levels

@@ -46,6 +46,9 @@ pub record HasCap (program : LinearProgram) (last : ℕ) : Type 0 where
   pub here : coefficient program last 0 ≡ pos 1
   pub elsewhere : (c : ℕ) → coefficient program last (suc c) ≡ pos 0
   pub right : entry program.right_sides last ≡ pos 1
+  pub rights : List ℤ
+  pub split : program.right_sides ≡ rights ++ pos 1 ∷ []
+  pub count : length rights ≡ last
 
 zeros_at : {X : Type 0} (xs : List X) (j : ℕ) → j < length xs → entry (map (λ (x : X). pos 0) xs) j ≡ pos 0
 zeros_at [] j h = refl
@@ -78,6 +81,9 @@ cap_from program before rights n made right count =
       here = ap (λ r. entry r 0) row;
       elsewhere = λ c. ap (λ r. entry r (suc c)) row ∙ unit_elsewhere (suc n) 0 (suc c) (omega arith);
       right = ap (λ r. entry r (length before)) right ∙ get_or_at rights (pos 1) [] (pos 0) (length before) count;
+      rights = rights;
+      split = right;
+      count = count;
     }
 
 capped_from : (program : LinearProgram) (before : List (List ℤ)) (rights : List ℤ) (n : ℕ) → program.columns ≡ suc n → IsMadeOf program (before ++ unit_row (suc n) 0 ∷ []) → program.right_sides ≡ rights ++ pos 1 ∷ [] → length rights ≡ length before → All (λ x. pos 0 ≤ℤ x) rights → IsProgram program × IsCapped program
