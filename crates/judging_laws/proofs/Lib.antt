@@ -2,3 +2,5 @@ pub mod FlatRows
 pub mod ProgramRows
 pub mod Weights
 pub mod Levels
+pub mod Dominance
+pub mod Means

@@ -1,0 +1,2 @@
+-- Means.
+use Rattle.std.proofs.Common.{◌≡◌, ℕ}
