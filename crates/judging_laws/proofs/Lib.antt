@@ -4,3 +4,4 @@ pub mod Weights
 pub mod Levels
 pub mod Dominance
 pub mod Means
+pub mod ClassFacts
