@@ -1,4 +1,5 @@
-ghost use Rattle.std.specs.Prelude.{◌≡◌, ◌≤◌, IfSome, IsSome, IsTrue, ◌↔◌};
+ghost use Rattle.std.specs.Prelude.{◌≡◌, ◌<◌, ◌≤◌, IfSome, IsSome, IsTrue, ◌↔◌};
+ghost use Rattle.scan_types.specs.declared.limits.TheConstants.{MOST_FEEDS, MOST_LIMIT};
 
 use crate::limits::{MOST_FEEDS, MOST_LIMIT};
 use crate::odds::Odds;
@@ -18,9 +19,9 @@ pub struct Offer {
     pub limit: u32,
     /// How bets are settled where the match is abandoned.
     pub rule: VoidRule,
-    ghost feed_at_most: { feed ≤ 7 },
+    ghost feed_at_most: { feed < MOST_FEEDS },
     ghost limit_at_least: { 1 ≤ limit },
-    ghost limit_at_most: { limit ≤ 100000000 },
+    ghost limit_at_most: { limit ≤ MOST_LIMIT },
 }
 
 impl Offer {

@@ -2,10 +2,10 @@ ghost use Rattle.std.specs.Prelude.{◌≡◌, [], ◌∷◌, ◌++◌, IsTrue, 
 ghost use Rattle.scan_types.specs.Sheets.{IsSheet, Fits};
 
 use crate::limits::MOST_OFFERS;
-use crate::memory::WantOfMemory;
 use crate::offer::Offer;
 use std::alloc::Global;
 use std::marker::Model;
+use want_of_memory::WantOfMemory;
 
 /// The offers on one match: at most 256, strictly rising by feed and selection number.
 #[derive(Debug, Drop)]

@@ -1,8 +1,9 @@
 -- Offers with the same terms are equal, and a selection is known by its number.
-use Rattle.std.proofs.Common.{◌≡◌, ◌≤◌, ◌-◌, ℕ, arith, refl, sym, ◌∙◌, ap, subst}
+use Rattle.std.proofs.Common.{◌≡◌, ◌<◌, ◌≤◌, ◌-◌, ℕ, arith, refl, sym, ◌∙◌, ap, subst}
 use Rattle.std.specs.Prelude.{ℤ, pos, negsuc, ◌≤ℤ◌, ◌+ℤ◌, unsigned_abs}
 use Rattle.std.proofs.Props.{props}
 use Rattle.std.proofs.lemmas.Int.{ints}
+use Rattle.scan_types.specs.declared.limits.TheConstants.{LEAST_ODDS, MOST_ODDS, MOST_FEEDS, MOST_LIMIT}
 use Rattle.scan_types.specs.declared.odds.Odds.{Odds}
 use Rattle.scan_types.specs.declared.line.HandicapLine.{HandicapLine}
 use Rattle.scan_types.specs.declared.line.TotalLine.{TotalLine}
@@ -15,19 +16,24 @@ use Rattle.scan_types.specs.Selections.{selection_number}
 at_most_once : (a b : ℕ) → IsProp (a ≤ b)
 at_most_once a b = hlevel props
 
+below_once : (a b : ℕ) → IsProp (a < b)
+below_once a b = hlevel props
+
 at_most_once_int : (a b : ℤ) → IsProp (a ≤ℤ b)
 at_most_once_int a b = hlevel props
 
-odds_same : (a b : Odds) → a.thousandths ≡ b.thousandths → a ≡ b
+-- odds of the same thousandths are the same
+pub odds_same : (a b : Odds) → a.thousandths ≡ b.thousandths → a ≡ b
 odds_same a b e =
-    let P : ℕ → Type 0 = λ n. (p : 1001 ≤ n) (q : n ≤ 1000000) → a ≡ record { thousandths = n; at_least = p; at_most = q } in
-    let F : 1001 ≤ a.thousandths → Odds = λ p. record { thousandths = a.thousandths; at_least = p; at_most = a.at_most } in
+    let P : ℕ → Type 0 = λ n. (p : LEAST_ODDS ≤ n) (q : n ≤ MOST_ODDS) → a ≡ record { thousandths = n; at_least = p; at_most = q } in
+    let F : LEAST_ODDS ≤ a.thousandths → Odds = λ p. record { thousandths = a.thousandths; at_least = p; at_most = a.at_most } in
     let here : P a.thousandths = λ p q.
-    let G : a.thousandths ≤ 1000000 → Odds = λ r. record { thousandths = a.thousandths; at_least = p; at_most = r } in
+    let G : a.thousandths ≤ MOST_ODDS → Odds = λ r. record { thousandths = a.thousandths; at_least = p; at_most = r } in
     ap F (at_most_once _ _ a.at_least p) ∙ ap G (at_most_once _ _ a.at_most q) in
     subst P e here b.at_least b.at_most
 
-handicap_same : (a b : HandicapLine) → a.quarters ≡ b.quarters → a ≡ b
+-- lines of the same quarters are the same
+pub handicap_same : (a b : HandicapLine) → a.quarters ≡ b.quarters → a ≡ b
 handicap_same a b e =
     let P : ℤ → Type 0 = λ n. (p : negsuc 19 ≤ℤ n) (q : n ≤ℤ pos 20) → a ≡ record { quarters = n; at_least = p; at_most = q } in
     let F : negsuc 19 ≤ℤ a.quarters → HandicapLine = λ p. record { quarters = a.quarters; at_least = p; at_most = a.at_most } in
@@ -36,7 +42,7 @@ handicap_same a b e =
     ap F (at_most_once_int _ _ a.at_least p) ∙ ap G (at_most_once_int _ _ a.at_most q) in
     subst P e here b.at_least b.at_most
 
-total_same : (a b : TotalLine) → a.quarters ≡ b.quarters → a ≡ b
+pub total_same : (a b : TotalLine) → a.quarters ≡ b.quarters → a ≡ b
 total_same a b e =
     let P : ℕ → Type 0 = λ n. (p : 2 ≤ n) (q : n ≤ 30) → a ≡ record { quarters = n; at_least = p; at_most = q } in
     let F : 2 ≤ a.quarters → TotalLine = λ p. record { quarters = a.quarters; at_least = p; at_most = a.at_most } in
@@ -44,10 +50,6 @@ total_same a b e =
     let G : a.quarters ≤ 30 → TotalLine = λ r. record { quarters = a.quarters; at_least = p; at_most = r } in
     ap F (at_most_once _ _ a.at_least p) ∙ ap G (at_most_once _ _ a.at_most q) in
     subst P e here b.at_least b.at_most
-
--- a handicap line's place among the 41
-handicap_place : HandicapLine → ℕ
-handicap_place line = unsigned_abs (line.quarters +ℤ pos 20)
 
 absolute : (z : ℤ) → pos 0 ≤ℤ z → pos (unsigned_abs z) ≡ z
 absolute (pos n) h = refl
@@ -135,16 +137,16 @@ selection_same (Under a) (Under b) e = ap Under (total_one a b (omega arith))
 -- two offers with the same terms are the same
 pub offer_same : (a b : Offer) → a.feed ≡ b.feed → a.selection ≡ b.selection → a.odds.thousandths ≡ b.odds.thousandths → a.limit ≡ b.limit → a.rule ≡ b.rule → a ≡ b
 offer_same a b f s o l r =
-    let P : ℕ → Type 0 = λ n. (p : n ≤ 7) → a ≡ record { feed = n; selection = a.selection; odds = a.odds; limit = a.limit; rule = a.rule; feed_at_most = p; limit_at_least = a.limit_at_least; limit_at_most = a.limit_at_most } in
-    let F : a.feed ≤ 7 → Offer = λ p. record { feed = a.feed; selection = a.selection; odds = a.odds; limit = a.limit; rule = a.rule; feed_at_most = p; limit_at_least = a.limit_at_least; limit_at_most = a.limit_at_most } in
-    let feeds : P b.feed = subst P f (λ p. ap F (at_most_once _ _ a.feed_at_most p)) in
+    let P : ℕ → Type 0 = λ n. (p : n < MOST_FEEDS) → a ≡ record { feed = n; selection = a.selection; odds = a.odds; limit = a.limit; rule = a.rule; feed_at_most = p; limit_at_least = a.limit_at_least; limit_at_most = a.limit_at_most } in
+    let F : a.feed < MOST_FEEDS → Offer = λ p. record { feed = a.feed; selection = a.selection; odds = a.odds; limit = a.limit; rule = a.rule; feed_at_most = p; limit_at_least = a.limit_at_least; limit_at_most = a.limit_at_most } in
+    let feeds : P b.feed = subst P f (λ p. ap F (below_once _ _ a.feed_at_most p)) in
     let S : Selection → Offer = λ x. record { feed = b.feed; selection = x; odds = a.odds; limit = a.limit; rule = a.rule; feed_at_most = b.feed_at_most; limit_at_least = a.limit_at_least; limit_at_most = a.limit_at_most } in
     let O : Odds → Offer = λ x. record { feed = b.feed; selection = b.selection; odds = x; limit = a.limit; rule = a.rule; feed_at_most = b.feed_at_most; limit_at_least = a.limit_at_least; limit_at_most = a.limit_at_most } in
     let R : VoidRule → Offer = λ x. record { feed = b.feed; selection = b.selection; odds = b.odds; limit = a.limit; rule = x; feed_at_most = b.feed_at_most; limit_at_least = a.limit_at_least; limit_at_most = a.limit_at_most } in
-    let Q : ℕ → Type 0 = λ n. (p : 1 ≤ n) (q : n ≤ 100000000) → R b.rule ≡ record { feed = b.feed; selection = b.selection; odds = b.odds; limit = n; rule = b.rule; feed_at_most = b.feed_at_most; limit_at_least = p; limit_at_most = q } in
+    let Q : ℕ → Type 0 = λ n. (p : 1 ≤ n) (q : n ≤ MOST_LIMIT) → R b.rule ≡ record { feed = b.feed; selection = b.selection; odds = b.odds; limit = n; rule = b.rule; feed_at_most = b.feed_at_most; limit_at_least = p; limit_at_most = q } in
     let G : 1 ≤ a.limit → Offer = λ p. record { feed = b.feed; selection = b.selection; odds = b.odds; limit = a.limit; rule = b.rule; feed_at_most = b.feed_at_most; limit_at_least = p; limit_at_most = a.limit_at_most } in
     let here : Q a.limit = λ p q.
-    let H : a.limit ≤ 100000000 → Offer = λ x. record { feed = b.feed; selection = b.selection; odds = b.odds; limit = a.limit; rule = b.rule; feed_at_most = b.feed_at_most; limit_at_least = p; limit_at_most = x } in
+    let H : a.limit ≤ MOST_LIMIT → Offer = λ x. record { feed = b.feed; selection = b.selection; odds = b.odds; limit = a.limit; rule = b.rule; feed_at_most = b.feed_at_most; limit_at_least = p; limit_at_most = x } in
     ap G (at_most_once _ _ a.limit_at_least p) ∙ ap H (at_most_once _ _ a.limit_at_most q) in
     let limits : R b.rule ≡ b = subst Q l here b.limit_at_least b.limit_at_most in
     feeds b.feed_at_most ∙ (ap S s ∙ (ap O (odds_same a.odds b.odds o) ∙ (ap R r ∙ limits)))

@@ -2,7 +2,7 @@ use std::alloc::{AllocError, AllocFailed};
 use std::error::Error;
 use std::fmt;
 
-/// No memory was to be had. Unless the call's own page says otherwise, what a call was lent is then as before.
+/// No memory is left. Unless the call says otherwise, what it was lent is then as before.
 #[derive(Clone, Copy, Debug, PartialEq, Eq, PartialOrd, Ord, Hash)]
 pub struct WantOfMemory;
 
