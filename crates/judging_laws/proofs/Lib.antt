@@ -5,3 +5,4 @@ pub mod Levels
 pub mod Dominance
 pub mod Means
 pub mod ClassFacts
+pub mod Measures
