@@ -62,7 +62,7 @@ none_there program last point cap zero differ = absurd (differ refl)
 none_there program last point cap (suc c) differ = ap (λ x. x *ℤ point (suc c)) (cap.elsewhere c) ∙ zero_times (point (suc c))
 
 -- the sum of the last row is the level
-cap_row : (program : LinearProgram) (last : ℕ) (point : ℕ → ℤ) → IsProgram program → HasCap program last → row_sum program last point ≡ point 0
+pub cap_row : (program : LinearProgram) (last : ℕ) (point : ℕ → ℤ) → IsProgram program → HasCap program last → row_sum program last point ≡ point 0
 cap_row program last point is cap =
     sum_one program.columns 0 (λ c. coefficient program last c *ℤ point c) is.some_column (λ c h differ. none_there program last point cap c differ)
     ∙ ap (λ x. x *ℤ point 0) cap.here ∙ one_of (point 0)

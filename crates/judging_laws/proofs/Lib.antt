@@ -6,3 +6,4 @@ pub mod Dominance
 pub mod Means
 pub mod ClassFacts
 pub mod Measures
+pub mod Coherence
