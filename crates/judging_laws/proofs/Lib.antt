@@ -7,3 +7,4 @@ pub mod Means
 pub mod ClassFacts
 pub mod Measures
 pub mod Coherence
+pub mod KeptReadings
