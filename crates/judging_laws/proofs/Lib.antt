@@ -8,3 +8,4 @@ pub mod ClassFacts
 pub mod Measures
 pub mod Coherence
 pub mod KeptReadings
+pub mod Spread
