@@ -9,3 +9,4 @@ pub mod Measures
 pub mod Coherence
 pub mod KeptReadings
 pub mod Spread
+pub mod Gains

@@ -76,7 +76,7 @@ abbrev pub sum_pairs : (ℕ × Offer → ℤ) → List (ℕ × Offer) → ℤ
 sum_pairs f [] = pos 0
 sum_pairs f (pair ∷ pairs) = f pair +ℤ sum_pairs f pairs
 
-sum_pairs_same : (f g : ℕ × Offer → ℤ) (pairs : List (ℕ × Offer)) → Each (λ pair. f pair ≡ g pair) pairs → sum_pairs f pairs ≡ sum_pairs g pairs
+pub sum_pairs_same : (f g : ℕ × Offer → ℤ) (pairs : List (ℕ × Offer)) → Each (λ pair. f pair ≡ g pair) pairs → sum_pairs f pairs ≡ sum_pairs g pairs
 sum_pairs_same f g [] each = refl
 sum_pairs_same f g (pair ∷ pairs) each = ap₂ (λ a b. a +ℤ b) each.0 (sum_pairs_same f g pairs each.1)
 
