@@ -1,8 +1,8 @@
 -- What stakes that are read of a tableau gain at the classes.
-use Rattle.std.proofs.Common.{◌≡◌, ℕ, zero, suc, ◌+◌, ◌*◌, ◌/◌, ◌<◌, ◌≤◌, ◌==◌, Bool, List, [], ◌∷◌, length, map, filter, refl, sym, ap, ap₂, ◌∙◌, subst, arith}
+use Rattle.std.proofs.Common.{◌≡◌, ℕ, zero, suc, ◌+◌, ◌*◌, ◌/◌, ◌<◌, ◌≤◌, ◌==◌, Bool, true, List, [], ◌∷◌, length, map, filter, refl, sym, ap, ap₂, ◌∙◌, subst, arith}
 use Rattle.std.specs.Prelude.{Option, Some, None, slice_index_or}
 use Rattle.std.specs.Int.{◌∣◌}
-use Rattle.std.specs.List.{All, enumerate_from, position}
+use Rattle.std.specs.List.{All, enumerate_from, position, range_with_len}
 use Rattle.std.proofs.lemmas.List.{length-map, get_or-map}
 use Rattle.std.proofs.lemmas.List.Elements.{All-head, All-tail}
 use Rattle.std.proofs.lemmas.List.Quantifiers.{position-Some}
@@ -15,17 +15,18 @@ use Rattle.row_definitions.specs.Rows.{entry}
 use Rattle.pivot_definitions.specs.Programs.{LinearProgram, coefficient}
 use Rattle.pivot_definitions.specs.Tableaus.{SimplexTableau}
 use Rattle.pivot_definitions.specs.Duality.{sum_below, row_sum, IsReached, IsSolutionTimes, IsFeasibleTimes}
-use Rattle.pivot_definitions.proofs.Ring.{dif_is, difs, dif_same, linear, times_zero, same_from_product, at_most_from_product}
+use Rattle.pivot_definitions.proofs.Ring.{dif_is, difs, dif_same, linear, times_zero, same_from_product, at_most_from_product, mul_not_negative}
 use Rattle.pivot_definitions.proofs.Sums.{sum_same, sum_scaled_right, sum_negated}
 use Rattle.scan_types.specs.declared.offer.Offer.{Offer}
 use Rattle.scan_types.specs.declared.outcome.Outcome.{Outcome}
 use Rattle.settlement_definitions.specs.Gain.{gain}
 use Rattle.finding_definitions.specs.Arbitrage.{total_gain}
-use Rattle.judging_definitions.specs.Columns.{offer_divisor, divided_gain}
-use Rattle.judging_definitions.specs.Stakes.{Fraction, column_value, stake_in_column, fractional_stakes, MakesWhole, multiples}
+use Rattle.judging_definitions.specs.Columns.{offer_divisor, divided_gain, is_undominated, leading_offers}
+use Rattle.judging_definitions.specs.Stakes.{Fraction, column_value, stake_in_column, fractional_stakes, all_numbers, MakesWhole, multiples}
+use Rattle.judging_definitions.specs.Readings.{HasLevelOne}
 use Rattle.judging_laws.proofs.ProgramRows.{HasClassRows}
 use Rattle.judging_laws.proofs.Weights.{sum_front}
-use Rattle.judging_laws.proofs.Levels.{ValueFacts, value_facts}
+use Rattle.judging_laws.proofs.Levels.{BestFacts, ValueFacts, value_facts, level_is_one}
 use Rattle.judging_laws.proofs.Means.{gain_is}
 use Rattle.judging_laws.proofs.ClassFacts.{Each}
 use Rattle.judging_laws.proofs.Spread.{place, numbers_of, sum_pairs, sum_pairs_same, sum_by_place}
@@ -149,3 +150,77 @@ columns_gain classes columns asked program times point j x o rows feasible withi
       (sum_same (length columns) (λ k. coefficient program j (suc k) *ℤ point (suc k)) (λ k. neg_ℤ (point (suc k) *ℤ divided_gain classes (slice_index_or columns k o) c)) (λ k h. ap (λ z. z *ℤ point (suc k)) (rows.gains j k x o within h) ∙ row_step (pos 0) (point (suc k)) (divided_gain classes (slice_index_or columns k o) c))
         ∙ sum_neg (length columns) (λ k. point (suc k) *ℤ divided_gain classes (slice_index_or columns k o) c)) in
     omega (arith, linear, row, same_out _ _ zero_right, same_out _ _ sum)
+
+-- the columns are those of the offers of the sheet that pass a test, in order
+pub record AreColumns (offers : List Offer) (numbers : List ℕ) (columns : List Offer) : Type 0 where
+  pub test : ℕ × Offer → Bool
+  pub numbers_are : numbers_of (filter test (enumerate_from 0 offers)) ≡ numbers
+  pub columns_are : map (λ (pair : ℕ × Offer). pair.1) (filter test (enumerate_from 0 offers)) ≡ columns
+
+pub leading_columns : (offers : List Offer) (classes : List Outcome) → AreColumns offers (map (λ offer. offer.0) (leading_offers offers classes)) (map (λ offer. offer.1) (leading_offers offers classes))
+leading_columns offers classes = record { test = is_undominated classes (enumerate_from 0 offers); numbers_are = refl; columns_are = refl }
+
+all_pass : (pairs : List (ℕ × Offer)) → filter (λ pair. true) pairs ≡ pairs
+all_pass [] = refl
+all_pass (pair ∷ pairs) = ap (λ ps. pair ∷ ps) (all_pass pairs)
+
+numbers_from : (n : ℕ) (offers : List Offer) → numbers_of (enumerate_from n offers) ≡ range_with_len n (length offers)
+numbers_from n [] = refl
+numbers_from n (offer ∷ offers) = ap (λ ns. n ∷ ns) (numbers_from (n + 1) offers)
+
+offers_from : (n : ℕ) (offers : List Offer) → map (λ (pair : ℕ × Offer). pair.1) (enumerate_from n offers) ≡ offers
+offers_from n [] = refl
+offers_from n (offer ∷ offers) = ap (λ os. offer ∷ os) (offers_from (n + 1) offers)
+
+pub all_columns : (offers : List Offer) → AreColumns offers (all_numbers offers) offers
+all_columns offers = record {
+  test = λ pair. true;
+  numbers_are = ap numbers_of (all_pass (enumerate_from 0 offers)) ∙ numbers_from 0 offers;
+  columns_are = ap (map (λ (pair : ℕ × Offer). pair.1)) (all_pass (enumerate_from 0 offers)) ∙ offers_from 0 offers;
+}
+
+move_times : (d t a : ℤ) → d *ℤ (a *ℤ t) ≡ t *ℤ (d *ℤ a)
+move_times d t a = rw (dif_is d, dif_is t, dif_is a) (simp difs (dif_same _ _ _ _ (omega arith)))
+
+times_at_most : (d a b : ℤ) → pos 0 ≤ℤ d → a ≤ℤ b → (d *ℤ a) ≤ℤ (d *ℤ b)
+times_at_most d a b h k =
+    let x = mul_not_negative d (b -ℤ a) h (omega (arith, linear, k)) in
+    let e : d *ℤ (b -ℤ a) ≡ d *ℤ b -ℤ d *ℤ a = rw (dif_is d, dif_is a, dif_is b) (simp difs (dif_same _ _ _ _ (omega arith))) in
+    omega (arith, linear, x, same_out _ _ e)
+
+factor_step : (a x y : ℤ) → a *ℤ x +ℤ a *ℤ y ≡ a *ℤ (x +ℤ y)
+factor_step a x y = rw (dif_is a, dif_is x, dif_is y) (simp difs (dif_same _ _ _ _ (omega arith)))
+
+sum_factor : (n : ℕ) (a : ℤ) (f : ℕ → ℤ) → sum_below n (λ k. a *ℤ f k) ≡ a *ℤ sum_below n f
+sum_factor zero a f = sym (times_zero a)
+sum_factor (suc n) a f = ap (λ z. z +ℤ a *ℤ f n) (sum_factor n a f) ∙ factor_step a (sum_below n f) (f n)
+
+reach_step : (classes : List Outcome) (offers : List Offer) (p : ℕ × Offer → Bool) (asked : Outcome → ℤ) (program : LinearProgram) (tableau : SimplexTableau) (facts : BestFacts program tableau) (d j : ℕ) (x : Outcome) (o : Offer) → IsReached program tableau → HasClassRows classes (map (λ (pair : ℕ × Offer). pair.1) (filter p (enumerate_from 0 offers))) asked program → facts.point 0 ≡ facts.times → MakesWhole d (fractional_stakes classes offers (numbers_of (filter p (enumerate_from 0 offers))) tableau) → j < length classes → (pos d *ℤ asked (slice_index_or classes j x)) ≤ℤ total_gain offers (multiples d (fractional_stakes classes offers (numbers_of (filter p (enumerate_from 0 offers))) tableau)) (slice_index_or classes j x)
+reach_step classes offers p asked program tableau facts d j x o reached rows level whole within =
+    let kept = filter p (enumerate_from 0 offers) in
+    let columns = map (λ (pair : ℕ × Offer). pair.1) kept in
+    let c = slice_index_or classes j x in
+    let t = facts.times in
+    let count : length columns ≡ length kept = length-map kept (λ (pair : ℕ × Offer). pair.1) in
+    let values : (k : ℕ) → k < length kept → ValueFacts (column_value tableau (suc k)) t (facts.point (suc k)) = λ k h. value_facts program tableau reached t facts.point facts.solution (suc k) (omega (arith, h, count, rows.columns)) in
+    let gained = gains_of_stakes classes offers p tableau d j x (0, o) t facts.point within values whole in
+    let rowed = columns_gain classes columns asked program t facts.point j x o rows facts.feasible within in
+    let gains = sum_below (length kept) (λ k. facts.point (suc k) *ℤ divided_gain classes (slice_index_or kept k (0, o)).1 c) in
+    let same : sum_below (length columns) (λ k. facts.point (suc k) *ℤ divided_gain classes (slice_index_or columns k o) c) ≡ gains =
+    ap (λ n. sum_below n (λ k. facts.point (suc k) *ℤ divided_gain classes (slice_index_or columns k o) c)) count
+    ∙ sum_same (length kept) (λ k. facts.point (suc k) *ℤ divided_gain classes (slice_index_or columns k o) c) (λ k. facts.point (suc k) *ℤ divided_gain classes (slice_index_or kept k (0, o)).1 c) (λ k h. ap (λ offer. facts.point (suc k) *ℤ divided_gain classes offer c) (get_or-map (λ (pair : ℕ × Offer). pair.1) kept k (0, o) o h)) in
+    let scaled : sum_below (length kept) (λ k. pos d *ℤ (facts.point (suc k) *ℤ divided_gain classes (slice_index_or kept k (0, o)).1 c)) ≡ pos d *ℤ gains = sum_factor (length kept) (pos d) (λ k. facts.point (suc k) *ℤ divided_gain classes (slice_index_or kept k (0, o)).1 c) in
+    let bound = times_at_most (pos d) (asked c *ℤ facts.point 0) gains (omega (arith, ints)) (omega (arith, linear, rowed, same_out _ _ same)) in
+    let moved : pos d *ℤ (asked c *ℤ facts.point 0) ≡ t *ℤ (pos d *ℤ asked c) = ap (λ z. pos d *ℤ (asked c *ℤ z)) level ∙ move_times (pos d) t (asked c) in
+    at_most_from_product t (pos d *ℤ asked c) (total_gain offers (multiples d (fractional_stakes classes offers (numbers_of kept) tableau)) c) facts.solution.positive
+      (omega (arith, linear, bound, same_out _ _ moved, same_out _ _ gained, same_out _ _ scaled))
+
+-- at level 1 the stakes, times a number that makes them whole, gain at each class as many times what is asked for there
+pub stakes_reach : (classes : List Outcome) (offers : List Offer) (numbers : List ℕ) (columns : List Offer) (asked : Outcome → ℤ) (program : LinearProgram) (tableau : SimplexTableau) (facts : BestFacts program tableau) (d j : ℕ) (x : Outcome) (o : Offer) → AreColumns offers numbers columns → IsReached program tableau → HasClassRows classes columns asked program → HasLevelOne tableau → MakesWhole d (fractional_stakes classes offers numbers tableau) → j < length classes → (pos d *ℤ asked (slice_index_or classes j x)) ≤ℤ total_gain offers (multiples d (fractional_stakes classes offers numbers tableau)) (slice_index_or classes j x)
+stakes_reach classes offers numbers columns asked program tableau facts d j x o are reached rows one whole within =
+    let c = slice_index_or classes j x in
+    let kept_numbers = numbers_of (filter are.test (enumerate_from 0 offers)) in
+    let level = level_is_one tableau facts.times (facts.point 0) (value_facts program tableau reached facts.times facts.point facts.solution 0 (omega (arith, rows.columns))) one in
+    subst (λ ns. (pos d *ℤ asked c) ≤ℤ total_gain offers (multiples d (fractional_stakes classes offers ns tableau)) c) are.numbers_are
+      (reach_step classes offers are.test asked program tableau facts d j x o reached (subst (λ cs. HasClassRows classes cs asked program) (sym are.columns_are) rows) level
+        (subst (λ ns. MakesWhole d (fractional_stakes classes offers ns tableau)) (sym are.numbers_are) whole) within)
