@@ -10,3 +10,4 @@ pub mod Coherence
 pub mod KeptReadings
 pub mod Spread
 pub mod Gains
+pub mod Directions
