@@ -49,11 +49,11 @@ level_below program tableau last reached facts capped below =
 last_out : (a m x : ℤ) → m ≡ pos 0 → a +ℤ m *ℤ x ≡ a
 last_out a m x none = ap (λ z. a +ℤ z *ℤ x) none ∙ (let z = zero_times x in let e : a +ℤ pos 0 *ℤ x ≡ a = omega (arith, linear, same_out _ _ z) in e)
 
-times_zero_out : (s x : ℤ) → (s *ℤ pos 0) ≤ℤ x → pos 0 ≤ℤ x
+pub times_zero_out : (s x : ℤ) → (s *ℤ pos 0) ≤ℤ x → pos 0 ≤ℤ x
 times_zero_out s x h = let z = times_zero s in omega (arith, linear, h, same_out _ _ z)
 
 -- a sum over all rows, where the cap counts nothing
-rows_out : (program : LinearProgram) (last c : ℕ) (m : ℕ → ℤ) → program.rows ≡ suc last → m last ≡ pos 0 → column_sum program m c ≡ sum_below last (λ r. m r *ℤ coefficient program r c)
+pub rows_out : (program : LinearProgram) (last c : ℕ) (m : ℕ → ℤ) → program.rows ≡ suc last → m last ≡ pos 0 → column_sum program m c ≡ sum_below last (λ r. m r *ℤ coefficient program r c)
 rows_out program last c m rows none =
     ap (λ n. sum_below n (λ r. m r *ℤ coefficient program r c)) rows ∙ last_out (sum_below last (λ r. m r *ℤ coefficient program r c)) (m last) (coefficient program last c) none
 
@@ -114,7 +114,7 @@ none_gains offers classes tableau zero_level k o within =
     let more = by_more classes tableau found.0.1 offer zero_level.not_negative found.2 in
     omega (arith, linear, leads, more)
 
-divisor_stands : (g : ℕ) (x y : ℤ) → pos g *ℤ x ≡ y → pos 0 <ℤ y → pos 0 <ℤ pos g
+pub divisor_stands : (g : ℕ) (x y : ℤ) → pos g *ℤ x ≡ y → pos 0 <ℤ y → pos 0 <ℤ pos g
 divisor_stands zero x y e h = absurd (let z = zero_times x in omega (arith, linear, same_out _ _ e, same_out _ _ z, h))
 divisor_stands (suc g) x y e h = omega (arith, ints)
 

@@ -11,3 +11,4 @@ pub mod KeptReadings
 pub mod Spread
 pub mod Gains
 pub mod Directions
+pub mod Limits
