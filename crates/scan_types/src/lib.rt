@@ -7,7 +7,7 @@
 //! - `offer`, `sheet`: one book's offer, and all offers on one match in their order.
 //! - `place`: a place in a text.
 //! - `limits`: the largest sizes, each with its reason.
-//! - `laws`: a selection is known by its number.
+//! - `laws`: a selection is known by its number, and selections are ordered by it.
 #![tactic(auto)]
 
 pub mod laws;

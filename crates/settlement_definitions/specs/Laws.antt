@@ -18,7 +18,7 @@ ResultByDifference =
     (offer : Offer) (h a : ℕ) → IsOnResult offer.selection
     → (a < h → gain offer (Full h a) ≡ gain offer (Full 1 0)) × (h ≡ a → gain offer (Full h a) ≡ gain offer (Full 0 0)) × (h < a → gain offer (Full h a) ≡ gain offer (Full 0 1))
 
--- a `void` book gives all stakes back where the match is abandoned
+-- a `void` book gives all stakes back if the match is abandoned
 abbrev pub VoidGivesBack : Type 0
 VoidGivesBack = (offer : Offer) (h a : ℕ) → offer.rule ≡ Void → gain offer (Abandoned h a) ≡ pos 0
 
@@ -27,7 +27,7 @@ abbrev pub DecidedStands : Type 0
 DecidedStands =
     (selection : Selection) (leg : ℤ) (h a : ℕ) (r : LegResult) → IsDecided selection leg h a r → leg_at Decided selection leg (Abandoned h a) ≡ r
 
--- and is a push where later scores differ
+-- and is a push if later scores differ
 abbrev pub UndecidedPushes : Type 0
 UndecidedPushes =
     (selection : Selection) (leg : ℤ) (h a : ℕ) → ((r : LegResult) → IsDecided selection leg h a r → ⊥) → leg_at Decided selection leg (Abandoned h a) ≡ Push

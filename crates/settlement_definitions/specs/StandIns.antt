@@ -8,11 +8,11 @@ abbrev pub is_final : Outcome → Bool
 is_final (Full h a) = true
 is_final (Abandoned h a) = false
 
--- six more than the home side's lead, where a lead beyond six goals either way counts as six
+-- six more than the home side's lead; a lead beyond six goals either way counts as six
 abbrev pub lead_step : ℕ → ℕ → ℕ
 lead_step h a = min 12 (h + 6 - a)
 
--- the score with such a lead and eight goals, or nine where the lead is odd: the home side's goals
+-- the score with such a lead and eight goals, or nine if the lead is odd: the home side's goals
 abbrev pub high_home : ℕ → ℕ
 high_home step = 1 + (step + step % 2) / 2
 

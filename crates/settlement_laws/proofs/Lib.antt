@@ -4,3 +4,6 @@ pub mod Sums
 pub mod Distinct
 pub mod Alike
 pub mod AlikeSums
+pub mod FiveGains
+pub mod CanLose
+pub mod Roundings

@@ -1,7 +1,8 @@
-use Rattle.std.specs.Prelude.{ℕ, pos, ◌≡◌, ◌*ℤ◌, ◌≤ℤ◌, List, All, Contains}
+use Rattle.std.specs.Prelude.{ℕ, pos, negsuc, ◌≡◌, ◌≤◌, ◌*◌, ◌/◌, ◌+ℤ◌, ◌-ℤ◌, ◌*ℤ◌, ◌≤ℤ◌, ◌⊎◌, List, length, All, Contains}
 use Rattle.scan_types.specs.declared.offer.Offer.{Offer}
 use Rattle.scan_types.specs.declared.outcome.Outcome.{Outcome}
-use Rattle.settlement_definitions.specs.Gain.{gain}
+use Rattle.scan_types.specs.declared.outcome.Outcome.TheVariants.{Full}
+use Rattle.settlement_definitions.specs.Gain.{gain, net, slack}
 use Rattle.settlement_definitions.specs.StandIns.{is_final, stand_for, stand_ins}
 use Rattle.settlement_definitions.specs.Classes.{SettleAlike, classes_of}
 use Rattle.finding_definitions.specs.Arbitrage.{need, total_net, total_gain}
@@ -66,3 +67,23 @@ abbrev pub SlackFromClasses : Type 0
 SlackFromClasses =
     (offers : List Offer) (parts : List ℕ) (times : ℕ) → All (λ y. (pos times *ℤ need_with_slack offers y) ≤ℤ total_gain offers parts y) (classes_of offers)
     → (x : Outcome) → (pos times *ℤ need_with_slack offers x) ≤ℤ total_gain offers parts x
+
+-- there are 98 stand-ins
+abbrev pub NinetyEightStandIns : Type 0
+NinetyEightStandIns = length stand_ins ≡ 98
+
+-- a bet is lost, half lost, given back, half won or won: the legs of a quarter line never go opposite ways
+abbrev pub FiveGains : Type 0
+FiveGains =
+    (offer : Offer) (x : Outcome) → let profit = pos offer.odds.thousandths -ℤ pos 1000 in
+    (gain offer x ≡ negsuc 1999) ⊎ ((gain offer x ≡ negsuc 999) ⊎ ((gain offer x ≡ pos 0) ⊎ ((gain offer x ≡ profit) ⊎ (gain offer x ≡ profit +ℤ profit))))
+
+-- every bet loses its whole stake at some final score
+abbrev pub EachBetCanLose : Type 0
+EachBetCanLose = (offer : Offer) → (home : ℕ) × (away : ℕ) × (gain offer (Full home away) ≡ negsuc 1999)
+
+-- a fractional stake, cut down to whole minor units, wins at most its slack less; all numbers times 2000 and the divisor
+abbrev pub SlackCoversRounding : Type 0
+SlackCoversRounding =
+    (offer : Offer) (x : Outcome) (divisor part : ℕ) → 1 ≤ divisor →
+    (pos part *ℤ gain offer x) ≤ℤ (pos (2000 * divisor) *ℤ net offer (part / divisor) x +ℤ pos (2 * divisor * slack offer x))

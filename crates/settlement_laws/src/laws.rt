@@ -1,4 +1,5 @@
 ghost use Rattle.settlement_laws.specs.Laws.{StandInSettlesAlike, EachHasStandIn, NetAtEachOutcome, GainAtEachOutcome, EachHasClass};
+ghost use Rattle.settlement_laws.specs.Laws.{NinetyEightStandIns, FiveGains, EachBetCanLose, SlackCoversRounding};
 ghost use Rattle.settlement_laws.specs.Laws.{EqualNeeds, EqualNets, EqualGains, EqualSlacks, NetFromClasses, GainFromClasses, SlackFromClasses};
 
 /// A stand-in is of the kind of each outcome that it stands for, and gives each offer the same gain.
@@ -34,4 +35,24 @@ pub fn classes_suffice()
     ensures net { NetFromClasses }
     ensures gain { GainFromClasses }
     ensures slack { SlackFromClasses }
+{}
+
+/// There are 98 stand-ins.
+pub fn there_are_98_stand_ins()
+    ensures { NinetyEightStandIns }
+{}
+
+/// A bet is lost, half lost, given back, half won or won: the two legs of a bet never go opposite ways.
+pub fn a_bet_gains_one_of_five_amounts()
+    ensures { FiveGains }
+{}
+
+/// Every bet loses its whole stake at some final score.
+pub fn each_bet_can_lose()
+    ensures { EachBetCanLose }
+{}
+
+/// What slack is for: a fractional stake that is cut down to whole minor units wins at most its slack less.
+pub fn slack_covers_rounding()
+    ensures { SlackCoversRounding }
 {}

@@ -4,6 +4,8 @@
 //! all leads from 6 goals on settle alike, and those up to -6 too. Outcomes that settle alike give equal
 //! sums of nets, gains and slacks, whatever the stakes. So a bound that holds at the stand-ins, or at the
 //! classes, holds at every outcome.
+//!
+//! A bet gains one of five amounts, every bet can lose its whole stake, and slack covers what rounding a stake down costs.
 #![tactic(auto)]
 
 pub mod laws;
