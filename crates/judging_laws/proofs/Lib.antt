@@ -12,3 +12,4 @@ pub mod Spread
 pub mod Gains
 pub mod Directions
 pub mod Limits
+pub mod Parts
