@@ -13,3 +13,4 @@ pub mod Gains
 pub mod Directions
 pub mod Limits
 pub mod Parts
+pub mod RightFindings
