@@ -1,7 +1,7 @@
 -- The classes of a sheet are at most 98 distinct outcomes with few goals.
-use Rattle.std.proofs.Common.{◌≡◌, ◌≢◌, ℕ, zero, suc, ◌+◌, ◌<◌, ◌≤◌, Bool, true, false, cond, not, ◌&&◌, nat_le, List, [], ◌∷◌, ◌++◌, length, map, filter, refl, sym, ap, ◌∙◌, subst, arith}
+use Rattle.std.proofs.Common.{◌≡◌, ◌≢◌, ℕ, zero, suc, ◌<◌, ◌≤◌, Bool, true, false, cond, not, ◌&&◌, nat_le, List, [], ◌∷◌, ◌++◌, length, map, filter, refl, subst, arith}
 use Rattle.std.specs.Prelude.{slice_index_or}
-use Rattle.std.specs.List.{All, AllPairs, list_all}
+use Rattle.std.specs.List.{list_all}
 use Rattle.std.proofs.lemmas.Bool.Decides.{nat_tests}
 use Rattle.scan_types.specs.declared.limits.TheConstants.{MOST_SCORE}
 use Rattle.scan_types.specs.declared.offer.Offer.{Offer}
@@ -9,7 +9,7 @@ use Rattle.scan_types.specs.declared.outcome.Outcome.{Outcome}
 use Rattle.scan_types.specs.declared.outcome.Outcome.TheVariants.{Full, Abandoned}
 use Rattle.settlement_definitions.specs.Scores.{HasScoresInRange}
 use Rattle.settlement_definitions.specs.StandIns.{stand_ins, stand_scores}
-use Rattle.settlement_definitions.specs.Classes.{settle_alike, distinct_by, classes_of, SettleAlike}
+use Rattle.settlement_definitions.specs.Classes.{settle_alike, distinct_by, classes_of}
 use Rattle.settlement_laws.proofs.Table.{length-stand_ins}
 use Rattle.settlement_laws.proofs.Alike.{Decides-settle_alike}
 

@@ -1,19 +1,18 @@
 -- At level 0 of the program without limits the measure lets no offer gain on average.
-use Rattle.std.proofs.Common.{◌≡◌, ℕ, zero, suc, ◌+◌, ◌*◌, ◌<◌, ◌≤◌, List, [], ◌∷◌, length, map, refl, sym, ap, ap₂, ◌∙◌, subst, arith, true}
+use Rattle.std.proofs.Common.{◌≡◌, ℕ, zero, suc, ◌+◌, ◌<◌, List, length, map, sym, ap, ◌∙◌, subst, arith, true}
 use Rattle.std.specs.Prelude.{slice_index_or}
-use Rattle.std.specs.List.{All, enumerate_from}
+use Rattle.std.specs.List.{enumerate_from}
 use Rattle.std.proofs.lemmas.List.{length-map, get_or-map}
 use Rattle.std.proofs.lemmas.List.FromFn.{length-enumerate_from, get_or-enumerate_from}
 use Rattle.std.proofs.lemmas.Int.{ints}
-use lib.IntN.{ℤ, pos, negsuc, ◌+ℤ◌, ◌-ℤ◌, ◌*ℤ◌, neg_ℤ}
+use lib.IntN.{ℤ, pos, ◌+ℤ◌, ◌-ℤ◌, ◌*ℤ◌}
 use lib.Signed.{◌<ℤ◌, ◌≤ℤ◌}
-use borrow.Author.Differences.{same_out, same_in}
+use borrow.Author.Differences.{same_out}
 use Rattle.pivot_definitions.specs.Programs.{LinearProgram, coefficient}
 use Rattle.pivot_definitions.specs.Tableaus.{SimplexTableau, multiplier_of}
 use Rattle.pivot_definitions.specs.Runs.{IsBest}
-use Rattle.pivot_definitions.specs.Duality.{sum_below, column_sum, objective_of, IsReached}
+use Rattle.pivot_definitions.specs.Duality.{sum_below, column_sum, IsReached}
 use Rattle.pivot_definitions.proofs.Ring.{dif_is, difs, dif_same, linear, mul_not_negative, mul_not_positive, times_zero, zero_times, times_one, positive_from_product, not_positive_from_product}
-use Rattle.pivot_definitions.proofs.Weak.{bound_holds}
 use Rattle.scan_types.specs.declared.limits.TheConstants.{MOST_PART}
 use Rattle.scan_types.specs.declared.offer.Offer.{Offer}
 use Rattle.scan_types.specs.declared.outcome.Outcome.{Outcome}
@@ -26,7 +25,7 @@ use Rattle.finding_definitions.specs.Verdicts.{IsRightCoherent}
 use Rattle.judging_definitions.specs.Columns.{offer_divisor, divided_gain, gains_no_less, leading_offers}
 use Rattle.judging_definitions.specs.JudgingPrograms.{homogeneous_program}
 use Rattle.judging_definitions.specs.Readings.{HasLevelOne, NoneAbove, class_weights, weighted_classes}
-use Rattle.judging_laws.proofs.ProgramRows.{HasClassRows, HasCap, homogeneous_classes, homogeneous_cap}
+use Rattle.judging_laws.proofs.ProgramRows.{HasCap, homogeneous_classes, homogeneous_cap}
 use Rattle.judging_laws.proofs.Weights.{weight_divisor, weighted_is}
 use Rattle.judging_laws.proofs.Levels.{BestFacts, best_facts, cap_row, no_cap, value_facts, level_below_one}
 use Rattle.judging_laws.proofs.Dominance.{In, place_of, in_at, has_leading, no_less_at}
@@ -98,7 +97,7 @@ times_below m a b h k =
 by_more : (classes : List Outcome) (tableau : SimplexTableau) (other offer : Offer) → ((j : ℕ) → j < length classes → pos 0 ≤ℤ multiplier_of tableau j) → gains_no_less classes other offer ≡ true → by_multipliers classes tableau (gain offer) any_outcome ≤ℤ by_multipliers classes tableau (gain other) any_outcome
 by_more classes tableau other offer positive more =
     sum_at_most (length classes) (λ j. multiplier_of tableau j *ℤ gain offer (slice_index_or classes j any_outcome)) (λ j. multiplier_of tableau j *ℤ gain other (slice_index_or classes j any_outcome))
-      (λ j h. times_below (multiplier_of tableau j) _ _ (positive j h) (no_less_at classes other offer more j any_outcome h))
+    (λ j h. times_below (multiplier_of tableau j) _ _ (positive j h) (no_less_at classes other offer more j any_outcome h))
 
 -- no offer of the sheet gains by the multipliers
 none_gains : (offers : List Offer) (classes : List Outcome) (tableau : SimplexTableau) → LevelZero classes (map (λ e. e.1) (leading_offers offers classes)) tableau → (k : ℕ) (o : Offer) → k < length offers → by_multipliers classes tableau (gain (slice_index_or offers k o)) any_outcome ≤ℤ pos 0

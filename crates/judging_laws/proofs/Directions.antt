@@ -1,18 +1,16 @@
 -- At level 1 of the program without limits the direction gains at every final score and loses at no abandonment.
-use Rattle.std.proofs.Common.{◌≡◌, ℕ, zero, suc, ◌+◌, ◌*◌, ◌<◌, ◌≤◌, true, List, [], ◌∷◌, length, map, refl, sym, ap, ap₂, ◌∙◌, subst, arith, lit≤}
+use Rattle.std.proofs.Common.{◌≡◌, ℕ, zero, suc, ◌*◌, ◌<◌, ◌≤◌, List, [], ◌∷◌, length, map, refl, sym, ap, ap₂, ◌∙◌, subst, arith, lit≤}
 use Rattle.std.specs.Prelude.{slice_index_or, unsigned_abs}
-use Rattle.std.specs.List.{All, AllZip}
 use Rattle.std.proofs.lemmas.Int.{unsigned_abs-mul, ints}
-use lib.IntN.{ℤ, pos, negsuc, ◌+ℤ◌, ◌*ℤ◌, pos-*ℤ-pos}
+use lib.IntN.{ℤ, pos, ◌+ℤ◌, ◌*ℤ◌, pos-*ℤ-pos}
 use lib.Signed.{◌<ℤ◌, ◌≤ℤ◌}
-use borrow.Author.Differences.{same_out, same_in}
+use borrow.Author.Differences.{same_out}
 use Rattle.row_definitions.specs.Rows.{row_divisor, primitive_row, scaled}
 use Rattle.row_definitions.proofs.Primitives.{scaled-primitive_row}
 use Rattle.pivot_definitions.specs.Tableaus.{SimplexTableau}
 use Rattle.pivot_definitions.specs.Runs.{IsBest}
 use Rattle.pivot_definitions.specs.Duality.{IsReached}
 use Rattle.pivot_definitions.proofs.Ring.{dif_is, difs, dif_same, linear, times_zero, zero_times, times_one, positive_from_product, not_negative_from_product}
-use Rattle.scan_types.specs.declared.limits.TheConstants.{MOST_PART}
 use Rattle.scan_types.specs.declared.offer.Offer.{Offer}
 use Rattle.scan_types.specs.declared.odds.Odds.{Odds}
 use Rattle.scan_types.specs.declared.rule.VoidRule.TheVariants.{Void}
@@ -30,7 +28,7 @@ use Rattle.judging_definitions.specs.JudgingPrograms.{homogeneous_program}
 use Rattle.judging_definitions.specs.Stakes.{fractional_stakes, multiples, in_lowest_terms}
 use Rattle.judging_definitions.specs.Readings.{HasLevelOne, IsDirection}
 use Rattle.judging_laws.proofs.ProgramRows.{homogeneous_classes}
-use Rattle.judging_laws.proofs.Levels.{BestFacts, best_facts}
+use Rattle.judging_laws.proofs.Levels.{best_facts}
 use Rattle.judging_laws.proofs.Gains.{leading_columns, stakes_reach}
 
 -- some offer, for places past the end of a list
@@ -113,4 +111,4 @@ direction_gains offers tableau direction reached best one is =
     let reaches = subst (λ z. (pos d *ℤ z) ≤ℤ (pos g *ℤ total_gain offers direction.parts (slice_index_or classes final.0 final.1))) final.3 (at final.0 final.1 any_offer final.2) in
     let positive = divisor_above g d (total_gain offers direction.parts (slice_index_or classes final.0 final.1)) is.common.common.above_zero reaches in
     bound_from_classes offers need (total_gain offers direction.parts) (equal_needs offers) (equal_gains offers direction.parts)
-      (λ j x h. needs_met g d (slice_index_or classes j x) (total_gain offers direction.parts (slice_index_or classes j x)) positive is.common.common.above_zero (at j x any_offer h))
+    (λ j x h. needs_met g d (slice_index_or classes j x) (total_gain offers direction.parts (slice_index_or classes j x)) positive is.common.common.above_zero (at j x any_offer h))

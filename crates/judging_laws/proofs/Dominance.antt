@@ -1,7 +1,7 @@
 -- Each offer of a sheet has a leading offer that gains at least as much at every class.
-use Rattle.std.proofs.Common.{◌≡◌, ℕ, zero, suc, ◌+◌, ◌<◌, ◌≤◌, ◌⊎◌, inl, inr, Bool, true, false, cond, not, ◌&&◌, ◌||◌, nat_lt, List, [], ◌∷◌, length, map, filter, refl, sym, ap, ◌∙◌, subst, arith}
+use Rattle.std.proofs.Common.{◌≡◌, ℕ, zero, suc, ◌<◌, ◌⊎◌, inl, inr, Bool, true, false, cond, not, ◌&&◌, ◌||◌, nat_lt, List, [], ◌∷◌, length, filter, refl, sym, ap, ◌∙◌, subst, arith}
 use Rattle.std.specs.Prelude.{slice_index_or, int_le, int_lt}
-use Rattle.std.specs.List.{list_all, list_any, enumerate_from}
+use Rattle.std.specs.List.{list_any, enumerate_from}
 use Rattle.std.proofs.lemmas.Bool.Decides.{nat_tests}
 use Rattle.std.proofs.lemmas.Bool.{cases_lt}
 use Rattle.std.proofs.lemmas.Int.{ints, by_lt_z}
@@ -129,9 +129,9 @@ dominates_before classes a b h =
     elim (either_true (gains_more_somewhere classes a.1 b.1) (nat_lt a.0 b.0) x.1) [
       | inl more ↦ inl (total_more classes a.1 b.1 x.0 more)
       | inr lower ↦
-        (let less : a.0 < b.0 = grind (arith, nat_tests) in
-        let q = total_no_less classes a.1 b.1 x.0 in
-        by_lt_z (total classes b.1) (total classes a.1) (λ k. inl k) (λ k. inr (same_in _ _ (omega (arith, linear, le_out _ _ q, le_out _ _ k)), less)))
+          (let less : a.0 < b.0 = grind (arith, nat_tests) in
+          let q = total_no_less classes a.1 b.1 x.0 in
+          by_lt_z (total classes b.1) (total classes a.1) (λ k. inl k) (λ k. inr (same_in _ _ (omega (arith, linear, le_out _ _ q, le_out _ _ k)), less)))
     ]
 
 before_trans : (classes : List Outcome) (a b c : ℕ × Offer) → Before classes a b → Before classes b c → Before classes a c
@@ -151,14 +151,14 @@ decide_before : (classes : List Outcome) (a b : ℕ × Offer) → Before classes
 unfolding Before
 decide_before classes a b =
     by_lt_z (total classes b.1) (total classes a.1) (λ h. inl (inl h)) (λ h.
-      by_lt_z (total classes a.1) (total classes b.1)
-        (λ k. inr (λ before. elim before [ inl x ↦ omega (arith, linear, x, k) | inr x ↦ omega (arith, linear, k, same_out _ _ x.0) ]))
-        (λ k.
-          let same : total classes a.1 ≡ total classes b.1 = same_in _ _ (omega (arith, linear, le_out _ _ h, le_out _ _ k)) in
-          elim (cases_lt a.0 b.0) [
-            | inl less ↦ inl (inr (same, less))
-            | inr more ↦ inr (λ before. elim before [ inl x ↦ omega (arith, linear, x, h) | inr x ↦ omega (arith, x.1, more) ])
-          ]))
+    by_lt_z (total classes a.1) (total classes b.1)
+    (λ k. inr (λ before. elim before [ inl x ↦ omega (arith, linear, x, k) | inr x ↦ omega (arith, linear, k, same_out _ _ x.0) ]))
+    (λ k.
+    let same : total classes a.1 ≡ total classes b.1 = same_in _ _ (omega (arith, linear, le_out _ _ h, le_out _ _ k)) in
+    elim (cases_lt a.0 b.0) [
+      | inl less ↦ inl (inr (same, less))
+      | inr more ↦ inr (λ before. elim before [ inl x ↦ omega (arith, linear, x, h) | inr x ↦ omega (arith, x.1, more) ])
+    ]))
 
 -- of some offers one has none before it
 record Foremost (classes : List Outcome) (xs : List (ℕ × Offer)) : Type 0 where

@@ -1,22 +1,22 @@
 -- What stakes that are read of a tableau gain at the classes.
-use Rattle.std.proofs.Common.{◌≡◌, ℕ, zero, suc, ◌+◌, ◌*◌, ◌/◌, ◌<◌, ◌≤◌, ◌==◌, Bool, true, List, [], ◌∷◌, length, map, filter, refl, sym, ap, ap₂, ◌∙◌, subst, arith}
+use Rattle.std.proofs.Common.{◌≡◌, ℕ, zero, suc, ◌+◌, ◌*◌, ◌/◌, ◌<◌, ◌==◌, Bool, true, List, [], ◌∷◌, length, map, filter, refl, sym, ap, ap₂, ◌∙◌, subst, arith}
 use Rattle.std.specs.Prelude.{Option, Some, None, slice_index_or}
 use Rattle.std.specs.Int.{◌∣◌}
-use Rattle.std.specs.List.{All, enumerate_from, position, range_with_len}
+use Rattle.std.specs.List.{enumerate_from, range_with_len}
 use Rattle.std.proofs.lemmas.List.{length-map, get_or-map}
 use Rattle.std.proofs.lemmas.List.Elements.{All-head, All-tail}
 use Rattle.std.proofs.lemmas.List.Quantifiers.{position-Some}
 use Rattle.std.proofs.lemmas.Int.{ints}
 use Rattle.std.proofs.Math.Nat.{div-mul_cancel}
 use lib.IntN.{ℤ, pos, ◌+ℤ◌, ◌-ℤ◌, ◌*ℤ◌, neg_ℤ, pos-*ℤ-pos}
-use lib.Signed.{◌<ℤ◌, ◌≤ℤ◌}
-use borrow.Author.Differences.{same_out, same_in}
+use lib.Signed.{◌≤ℤ◌}
+use borrow.Author.Differences.{same_out}
 use Rattle.row_definitions.specs.Rows.{entry}
 use Rattle.pivot_definitions.specs.Programs.{LinearProgram, coefficient}
 use Rattle.pivot_definitions.specs.Tableaus.{SimplexTableau}
-use Rattle.pivot_definitions.specs.Duality.{sum_below, row_sum, IsReached, IsSolutionTimes, IsFeasibleTimes}
+use Rattle.pivot_definitions.specs.Duality.{sum_below, row_sum, IsReached, IsFeasibleTimes}
 use Rattle.pivot_definitions.proofs.Ring.{dif_is, difs, dif_same, linear, times_zero, same_from_product, at_most_from_product, mul_not_negative}
-use Rattle.pivot_definitions.proofs.Sums.{sum_same, sum_scaled_right, sum_negated}
+use Rattle.pivot_definitions.proofs.Sums.{sum_same}
 use Rattle.scan_types.specs.declared.offer.Offer.{Offer}
 use Rattle.scan_types.specs.declared.outcome.Outcome.{Outcome}
 use Rattle.settlement_definitions.specs.Gain.{gain}
@@ -66,7 +66,7 @@ part_is value divisor d times point facts whole =
     let exact : q * (value.denominator * divisor) ≡ d * value.numerator = div-mul_cancel (value.denominator * divisor) whole in
     let product : pos q *ℤ (e *ℤ pos divisor) ≡ pos d *ℤ pos value.numerator = ap (λ z. pos q *ℤ z) (pos-*ℤ-pos value.denominator divisor) ∙ pos-*ℤ-pos q (value.denominator * divisor) ∙ ap pos exact ∙ sym (pos-*ℤ-pos d value.numerator) in
     same_from_product e (times *ℤ (pos q *ℤ pos divisor)) (pos d *ℤ point) (let h = facts.denominator in omega (arith, ints))
-      (arrange e times (pos q) (pos divisor) ∙ ap (λ z. times *ℤ z) product ∙ arrange_back e times (pos d) (pos value.numerator) ∙ ap (λ z. pos d *ℤ z) (sym facts.is) ∙ arrange_back (pos 0) (pos d) e point)
+    (arrange e times (pos q) (pos divisor) ∙ ap (λ z. times *ℤ z) product ∙ arrange_back e times (pos d) (pos value.numerator) ∙ ap (λ z. pos d *ℤ z) (sym facts.is) ∙ arrange_back (pos 0) (pos d) e point)
 
 nothing : (d : ℕ) → d * 0 / 1 ≡ 0
 nothing d = ap (λ n. n / 1) (let e : d * 0 ≡ 0 = omega arith in e)
@@ -124,7 +124,7 @@ gains_of_stakes classes offers p tableau d j x o times point within values whole
     ap (λ z. times *ℤ z) (total_by_pair (part d) s c 0 offers)
     ∙ times_pairs times (λ pair. pos (part d (s pair)) *ℤ gain pair.1 c) all
     ∙ sum_pairs_same (λ pair. times *ℤ (pos (part d (s pair)) *ℤ gain pair.1 c)) (λ pair. term classes d point c (place pair.0 numbers) pair.1) all
-      (each_from (λ pair. (s pair).denominator ∣ d * (s pair).numerator) (λ pair. times *ℤ (pos (part d (s pair)) *ℤ gain pair.1 c) ≡ term classes d point c (place pair.0 numbers) pair.1) one all (each_whole d s all whole))
+    (each_from (λ pair. (s pair).denominator ∣ d * (s pair).numerator) (λ pair. times *ℤ (pos (part d (s pair)) *ℤ gain pair.1 c) ≡ term classes d point c (place pair.0 numbers) pair.1) one all (each_whole d s all whole))
     ∙ sum_by_place p (term classes d point c) (λ offer. refl) 0 offers o
 
 -- ---- the rows of the classes
@@ -147,8 +147,8 @@ columns_gain classes columns asked program times point j x o rows feasible withi
     ap (λ n. sum_below n (λ k. coefficient program j k *ℤ point k)) rows.columns
     ∙ sum_front (length columns) (λ k. coefficient program j k *ℤ point k)
     ∙ ap₂ (λ a b. a *ℤ point 0 +ℤ b) (rows.level j x within)
-      (sum_same (length columns) (λ k. coefficient program j (suc k) *ℤ point (suc k)) (λ k. neg_ℤ (point (suc k) *ℤ divided_gain classes (slice_index_or columns k o) c)) (λ k h. ap (λ z. z *ℤ point (suc k)) (rows.gains j k x o within h) ∙ row_step (pos 0) (point (suc k)) (divided_gain classes (slice_index_or columns k o) c))
-        ∙ sum_neg (length columns) (λ k. point (suc k) *ℤ divided_gain classes (slice_index_or columns k o) c)) in
+    (sum_same (length columns) (λ k. coefficient program j (suc k) *ℤ point (suc k)) (λ k. neg_ℤ (point (suc k) *ℤ divided_gain classes (slice_index_or columns k o) c)) (λ k h. ap (λ z. z *ℤ point (suc k)) (rows.gains j k x o within h) ∙ row_step (pos 0) (point (suc k)) (divided_gain classes (slice_index_or columns k o) c))
+    ∙ sum_neg (length columns) (λ k. point (suc k) *ℤ divided_gain classes (slice_index_or columns k o) c)) in
     omega (arith, linear, row, same_out _ _ zero_right, same_out _ _ sum)
 
 -- the columns are those of the offers of the sheet that pass a test, in order
@@ -213,7 +213,7 @@ reach_step classes offers p asked program tableau facts d j x o reached rows lev
     let bound = times_at_most (pos d) (asked c *ℤ facts.point 0) gains (omega (arith, ints)) (omega (arith, linear, rowed, same_out _ _ same)) in
     let moved : pos d *ℤ (asked c *ℤ facts.point 0) ≡ t *ℤ (pos d *ℤ asked c) = ap (λ z. pos d *ℤ (asked c *ℤ z)) level ∙ move_times (pos d) t (asked c) in
     at_most_from_product t (pos d *ℤ asked c) (total_gain offers (multiples d (fractional_stakes classes offers (numbers_of kept) tableau)) c) facts.solution.positive
-      (omega (arith, linear, bound, same_out _ _ moved, same_out _ _ gained, same_out _ _ scaled))
+    (omega (arith, linear, bound, same_out _ _ moved, same_out _ _ gained, same_out _ _ scaled))
 
 -- at level 1 the stakes, times a number that makes them whole, gain at each class as many times what is asked for there
 pub stakes_reach : (classes : List Outcome) (offers : List Offer) (numbers : List ℕ) (columns : List Offer) (asked : Outcome → ℤ) (program : LinearProgram) (tableau : SimplexTableau) (facts : BestFacts program tableau) (d j : ℕ) (x : Outcome) (o : Offer) → AreColumns offers numbers columns → IsReached program tableau → HasClassRows classes columns asked program → HasLevelOne tableau → MakesWhole d (fractional_stakes classes offers numbers tableau) → j < length classes → (pos d *ℤ asked (slice_index_or classes j x)) ≤ℤ total_gain offers (multiples d (fractional_stakes classes offers numbers tableau)) (slice_index_or classes j x)
@@ -222,5 +222,5 @@ stakes_reach classes offers numbers columns asked program tableau facts d j x o 
     let kept_numbers = numbers_of (filter are.test (enumerate_from 0 offers)) in
     let level = level_is_one tableau facts.times (facts.point 0) (value_facts program tableau reached facts.times facts.point facts.solution 0 (omega (arith, rows.columns))) one in
     subst (λ ns. (pos d *ℤ asked c) ≤ℤ total_gain offers (multiples d (fractional_stakes classes offers ns tableau)) c) are.numbers_are
-      (reach_step classes offers are.test asked program tableau facts d j x o reached (subst (λ cs. HasClassRows classes cs asked program) (sym are.columns_are) rows) level
-        (subst (λ ns. MakesWhole d (fractional_stakes classes offers ns tableau)) (sym are.numbers_are) whole) within)
+    (reach_step classes offers are.test asked program tableau facts d j x o reached (subst (λ cs. HasClassRows classes cs asked program) (sym are.columns_are) rows) level
+    (subst (λ ns. MakesWhole d (fractional_stakes classes offers ns tableau)) (sym are.numbers_are) whole) within)

@@ -1,17 +1,16 @@
 -- What is read of a plain tableau is what is read of its kept form.
-use Rattle.std.proofs.Common.{◌≡◌, ℕ, zero, suc, ◌+◌, ◌*◌, ◌/◌, ◌<◌, ◌≤◌, ◌==◌, ◌⊎◌, inl, inr, true, false, cond, List, [], ◌∷◌, length, map, take, refl, sym, ap, ap₂, ◌∙◌, subst, arith, mul-pos}
-use Rattle.std.specs.Prelude.{Option, Some, None, slice_index_or, unsigned_abs}
+use Rattle.std.proofs.Common.{◌≡◌, ◌↔◌, ℕ, zero, suc, ◌+◌, ◌*◌, ◌/◌, ◌≤◌, ◌==◌, inl, inr, List, [], ◌∷◌, length, map, take, refl, sym, ap, ap₂, ◌∙◌, subst, arith}
+use Rattle.std.specs.Prelude.{Option, Some, None, unsigned_abs}
 use Rattle.std.specs.Int.{◌∣◌}
-use Rattle.std.specs.List.{All, AllZip, enumerate_from, range_with_len, position}
+use Rattle.std.specs.List.{AllZip, enumerate_from, range_with_len, position}
 use Rattle.std.proofs.lemmas.Int.{unsigned_abs-mul, ints}
-use Rattle.std.proofs.lemmas.List.Elements.{All-head, All-tail, All-cons, All-nil}
+use Rattle.std.proofs.lemmas.List.Elements.{All-head, All-tail, All-cons}
 use Rattle.std.proofs.Math.Nat.{le_of_mul-le-mul_left, mul-dvd-mul_left, dvd_of_mul-dvd-mul_left, mul-div-mul_left}
 use lib.IntN.{ℤ, pos, negsuc, neg_ℤ, ◌*ℤ◌}
 use lib.Signed.{◌<ℤ◌}
 use Rattle.row_definitions.specs.Rows.{primitive_row, scaled}
 use Rattle.row_definitions.proofs.Primitives.{primitive_row-scaled}
 use Rattle.pivot_definitions.specs.Tableaus.{SimplexTableau, objective, multiplier_of, right_side, entry_at, kept}
-use Rattle.pivot_definitions.specs.Laws.{IsRowMultiple}
 use Rattle.pivot_definitions.proofs.Signs.{multiple}
 use Rattle.pivot_definitions.proofs.Ring.{dif_is, difs, dif_same}
 use Rattle.scan_types.specs.declared.limits.TheConstants.{MOST_PART}
@@ -22,7 +21,7 @@ use Rattle.finding_definitions.specs.declared.finding.WideAt.TheVariants.{Entry,
 use Rattle.judging_definitions.specs.declared.limits.TheConstants.{MOST_COMMON_DENOMINATOR}
 use Rattle.judging_definitions.specs.Columns.{offer_divisor}
 use Rattle.judging_definitions.specs.Stakes.{Fraction, value_in_row, column_value, stake_in_column, fractional_stakes, MakesWhole, IsCommonDenominator, multiples, floors, in_lowest_terms}
-use Rattle.judging_definitions.specs.Readings.{HasLevelOne, FirstAbove, Reading, Reads, ReadsWide, class_weights, IsSmallDenominator, FirstWideDenominator, FirstWideStake, IsDirection, DirectionReads, AreParts, PartsRead}
+use Rattle.judging_definitions.specs.Readings.{HasLevelOne, FirstAbove, NoneAbove, Reading, Reads, ReadsWide, class_weights, weighted_classes, MeasureReads, IsSmallDenominator, FirstWideDenominator, FirstWideStake, DirectionReads, PartsRead}
 
 -- a row of the plain tableau is a whole number above 0 times that of its kept form
 record RowTimes (plain : SimplexTableau) (row : ℕ) : Type 0 where
@@ -227,3 +226,37 @@ parts_there fs gs (Reads parts) alike is = record { common = small_there MOST_PA
 parts_there fs gs (ReadsWide (Stake i)) alike is = stake_there MOST_PART (λ items. items) fs gs i alike is
 parts_there fs gs (ReadsWide (Entry r c)) alike is = is
 parts_there fs gs (ReadsWide (Weight j)) alike is = is
+
+-- ---- both ways
+
+pub same_level : (plain : SimplexTableau) → HasLevelOne plain ↔ HasLevelOne (kept plain)
+same_level plain = (level_kept plain, level_plain plain)
+
+measure_there : (classes : List Outcome) (plain other : SimplexTableau) (reading : Reading (List (Outcome × ℕ))) → class_weights classes plain ≡ class_weights classes other → MeasureReads classes plain reading → MeasureReads classes other reading
+measure_there classes plain other (Reads measure) same is = (subst (NoneAbove MOST_PART) same is.0, is.1 ∙ ap (weighted_classes classes) same)
+measure_there classes plain other (ReadsWide (Weight j)) same is = subst (λ ws. FirstAbove MOST_PART ws j) same is
+measure_there classes plain other (ReadsWide (Entry r c)) same is = is
+measure_there classes plain other (ReadsWide (Stake i)) same is = is
+
+pub same_measure : (classes : List Outcome) (plain : SimplexTableau) (reading : Reading (List (Outcome × ℕ))) → MeasureReads classes plain reading ↔ MeasureReads classes (kept plain) reading
+same_measure classes plain reading = (measure_there classes plain (kept plain) reading (same_weights classes plain), measure_there classes (kept plain) plain reading (sym (same_weights classes plain)))
+
+alike_of : (classes : List Outcome) (offers : List Offer) (numbers : List ℕ) (plain : SimplexTableau) → ReadAlike (fractional_stakes classes offers numbers plain) (fractional_stakes classes offers numbers (kept plain))
+alike_of classes offers numbers plain = read_alike (fractional_stakes classes offers numbers plain) (fractional_stakes classes offers numbers (kept plain)) (stakes_scaled classes offers numbers plain)
+
+pub same_direction : (classes : List Outcome) (offers : List Offer) (numbers : List ℕ) (plain : SimplexTableau) (reading : Reading Fractions) → DirectionReads offers (fractional_stakes classes offers numbers plain) reading ↔ DirectionReads offers (fractional_stakes classes offers numbers (kept plain)) reading
+same_direction classes offers numbers plain reading =
+    let stakes = fractional_stakes classes offers numbers plain in
+    let others = fractional_stakes classes offers numbers (kept plain) in
+    let alike = alike_of classes offers numbers plain in
+    (direction_there offers stakes others reading alike, direction_there offers others stakes reading (turned stakes others alike))
+
+pub same_parts : (classes : List Outcome) (offers : List Offer) (numbers : List ℕ) (plain : SimplexTableau) (reading : Reading Fractions) → PartsRead (fractional_stakes classes offers numbers plain) reading ↔ PartsRead (fractional_stakes classes offers numbers (kept plain)) reading
+same_parts classes offers numbers plain reading =
+    let stakes = fractional_stakes classes offers numbers plain in
+    let others = fractional_stakes classes offers numbers (kept plain) in
+    let alike = alike_of classes offers numbers plain in
+    (parts_there stakes others reading alike, parts_there others stakes reading (turned stakes others alike))
+
+pub same_floors : (classes : List Outcome) (offers : List Offer) (numbers : List ℕ) (plain : SimplexTableau) → floors (fractional_stakes classes offers numbers plain) ≡ floors (fractional_stakes classes offers numbers (kept plain))
+same_floors classes offers numbers plain = (alike_of classes offers numbers plain).floors_same

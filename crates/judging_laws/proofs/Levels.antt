@@ -1,5 +1,5 @@
 -- The best end of a run: its multipliers and its basic solution, and that the multiplier of the cap is 0 below level 1.
-use Rattle.std.proofs.Common.{◌≡◌, ◌≢◌, ℕ, zero, suc, ◌+◌, ◌<◌, ◌≤◌, inl, inr, List, [], ◌∷◌, ◌++◌, length, map, refl, sym, ap, ap₂, ◌∙◌, subst, arith, true, false, ◌==◌, ◌⊎◌}
+use Rattle.std.proofs.Common.{◌≡◌, ◌≢◌, ℕ, zero, suc, ◌+◌, ◌<◌, ◌≤◌, List, [], ◌∷◌, ◌++◌, length, map, refl, sym, ap, ap₂, ◌∙◌, subst, arith, ◌==◌}
 use Rattle.std.specs.Prelude.{Option, Some, None, unsigned_abs, MatchOption}
 use Rattle.std.specs.List.{All, position}
 use Rattle.std.proofs.lemmas.List.{length-append, length-map, get_or-map, get_or_append_left, get_or_at}
@@ -13,9 +13,9 @@ use Rattle.judging_definitions.specs.Readings.{HasLevelOne}
 use Rattle.pivot_definitions.proofs.KeptFeasible.{values_are_not_negative}
 use Rattle.row_definitions.specs.Rows.{entry}
 use Rattle.pivot_definitions.specs.Programs.{LinearProgram, IsProgram, coefficient}
-use Rattle.pivot_definitions.specs.Tableaus.{SimplexTableau, multiplier_of, IsValueOf, right_side, entry_at}
+use Rattle.pivot_definitions.specs.Tableaus.{SimplexTableau, multiplier_of, right_side, entry_at}
 use Rattle.pivot_definitions.specs.Runs.{IsBest}
-use Rattle.pivot_definitions.specs.Duality.{sum_below, row_sum, right_side_sum, objective_of, CombinesToObjective, BoundsObjective, IsSolutionTimes, IsFeasibleTimes, IsReached}
+use Rattle.pivot_definitions.specs.Duality.{sum_below, row_sum, right_side_sum, CombinesToObjective, BoundsObjective, IsSolutionTimes, IsFeasibleTimes, IsReached}
 use Rattle.pivot_definitions.proofs.Ring.{by_eq, dif_is, difs, dif_same, linear, mul_not_negative, mul_pos, zero_times, one_times, same_from_product}
 use Rattle.pivot_definitions.proofs.Sums.{sum_same, sum_one, sum_scaled_right}
 use Rattle.pivot_definitions.proofs.Optimum.{rows_combine, best_multipliers_bound}
@@ -82,8 +82,8 @@ stretched_is program last times level is cap positive some =
       every_coefficient = is.every_coefficient;
       every_right_side = count;
       not_negative = All-append (λ x. pos 0 ≤ℤ x) (map f cap.rights) (level ∷ [])
-        (All-map (λ x. pos 0 ≤ℤ x) f cap.rights (λ k d h. mul_not_negative times _ positive (subst (λ x. pos 0 ≤ℤ x) (get_or_append_left cap.rights (pos 1 ∷ []) d k h) (all k d (omega (arith, length-append cap.rights (pos 1 ∷ []), h))))))
-        (All-cons (λ x. pos 0 ≤ℤ x) level [] some (All-nil (λ x. pos 0 ≤ℤ x)));
+          (All-map (λ x. pos 0 ≤ℤ x) f cap.rights (λ k d h. mul_not_negative times _ positive (subst (λ x. pos 0 ≤ℤ x) (get_or_append_left cap.rights (pos 1 ∷ []) d k h) (all k d (omega (arith, length-append cap.rights (pos 1 ∷ []), h))))))
+          (All-cons (λ x. pos 0 ≤ℤ x) level [] some (All-nil (λ x. pos 0 ≤ℤ x)));
     }
 
 stretched_right : (program : LinearProgram) (last : ℕ) (times level : ℤ) → (cap : HasCap program last) → (r : ℕ) → r < last → entry (stretched program cap.rights times level).right_sides r ≡ times *ℤ entry program.right_sides r
@@ -123,9 +123,9 @@ no_cap program tableau last facts cap below =
     let solves : IsFeasibleTimes wider (pos 1) facts.point = record {
       not_negative = facts.feasible.not_negative;
       satisfies = λ r h. by_eq r last
-        (λ e. subst (λ k. row_sum program k facts.point ≤ℤ (pos 1 *ℤ entry wider.right_sides k)) (sym e)
-            (let a = cap_row program last facts.point facts.is cap in let b = stretched_last program last t level cap in let c = one_of (entry wider.right_sides last) in omega (arith, linear, same_out _ _ a, same_out _ _ b, same_out _ _ c)))
-        (λ ne. let a = facts.feasible.satisfies r h in let b = stretched_right program last t level cap r (omega (arith, h, cap.rows)) in let c = one_of (entry wider.right_sides r) in omega (arith, linear, a, same_out _ _ b, same_out _ _ c));
+          (λ e. subst (λ k. row_sum program k facts.point ≤ℤ (pos 1 *ℤ entry wider.right_sides k)) (sym e)
+          (let a = cap_row program last facts.point facts.is cap in let b = stretched_last program last t level cap in let c = one_of (entry wider.right_sides last) in omega (arith, linear, same_out _ _ a, same_out _ _ b, same_out _ _ c)))
+          (λ ne. let a = facts.feasible.satisfies r h in let b = stretched_right program last t level cap r (omega (arith, h, cap.rows)) in let c = one_of (entry wider.right_sides r) in omega (arith, linear, a, same_out _ _ b, same_out _ _ c));
     } in
     let same : BoundsObjective wider m facts.scale = record { positive = facts.bounds.positive; not_negative = facts.bounds.not_negative; covers = facts.bounds.covers } in
     let bound = bound_holds wider m facts.scale (pos 1) facts.point is same solves in
@@ -134,8 +134,8 @@ no_cap program tableau last facts cap below =
     let wide : right_side_sum wider m ≡ t *ℤ A +ℤ m last *ℤ level =
     ap (λ n. sum_below n (λ r. m r *ℤ entry wider.right_sides r)) cap.rows
     ∙ ap₂ (λ x y. x +ℤ m last *ℤ y)
-      (sum_same last (λ r. m r *ℤ entry wider.right_sides r) (λ r. m r *ℤ (t *ℤ entry program.right_sides r)) (λ r h. ap (λ x. m r *ℤ x) (stretched_right program last t level cap r h)) ∙ sum_scaled_right last t m (entry program.right_sides))
-      (stretched_last program last t level cap) in
+    (sum_same last (λ r. m r *ℤ entry wider.right_sides r) (λ r. m r *ℤ (t *ℤ entry program.right_sides r)) (λ r h. ap (λ x. m r *ℤ x) (stretched_right program last t level cap r h)) ∙ sum_scaled_right last t m (entry program.right_sides))
+    (stretched_last program last t level cap) in
     let lhs = facts.level ∙ ap (λ x. t *ℤ x) all ∙ split_times t A (m last) in
     let rhs = one_of (right_side_sum wider m) ∙ wide in
     let product = less_times (m last) level t in
@@ -188,6 +188,6 @@ numbers_same m n e = cc
 pub level_below_one : (tableau : SimplexTableau) (times point : ℤ) → ValueFacts (column_value tableau 0) times point → pos 0 <ℤ times → point ≤ℤ times → (HasLevelOne tableau → ⊥) → point <ℤ times
 level_below_one tableau times point facts positive small below =
     by_lt_z point times (λ h. h) (λ h.
-        let same : point ≡ times = same_in _ _ (omega (arith, linear, le_out _ _ h, le_out _ _ small)) in
-        let v = column_value tableau 0 in
-        absurd (below (numbers_same v.numerator v.denominator (same_from_product times (pos v.numerator) (pos v.denominator) positive (sym facts.is ∙ ap (λ x. pos v.denominator *ℤ x) same ∙ turned (pos v.denominator) times)))))
+    let same : point ≡ times = same_in _ _ (omega (arith, linear, le_out _ _ h, le_out _ _ small)) in
+    let v = column_value tableau 0 in
+    absurd (below (numbers_same v.numerator v.denominator (same_from_product times (pos v.numerator) (pos v.denominator) positive (sym facts.is ∙ ap (λ x. pos v.denominator *ℤ x) same ∙ turned (pos v.denominator) times)))))

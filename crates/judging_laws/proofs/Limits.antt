@@ -1,17 +1,17 @@
 -- Below level 1 of a program with limits the measure asks for more than stakes within the limits can win.
-use Rattle.std.proofs.Common.{◌≡◌, ◌≢◌, ℕ, zero, suc, ◌+◌, ◌*◌, ◌<◌, ◌≤◌, Bool, true, false, cond, List, [], ◌∷◌, length, map, refl, sym, ap, ap₂, ◌∙◌, subst, arith}
+use Rattle.std.proofs.Common.{◌≡◌, ℕ, suc, ◌+◌, ◌*◌, ◌<◌, true, false, cond, List, [], ◌∷◌, length, sym, ap, ap₂, ◌∙◌, subst, arith}
 use Rattle.std.specs.Prelude.{slice_index_or, int_lt}
 use Rattle.std.specs.Int.{int_max}
 use Rattle.std.proofs.lemmas.Int.{ints}
-use lib.IntN.{ℤ, pos, negsuc, ◌+ℤ◌, ◌-ℤ◌, ◌*ℤ◌, neg_ℤ, pos-*ℤ-pos}
+use lib.IntN.{ℤ, pos, ◌+ℤ◌, ◌-ℤ◌, ◌*ℤ◌, pos-*ℤ-pos}
 use lib.Signed.{◌<ℤ◌, ◌≤ℤ◌}
-use borrow.Author.Differences.{same_out, same_in}
+use borrow.Author.Differences.{same_out}
 use Rattle.row_definitions.specs.Rows.{entry}
 use Rattle.pivot_definitions.specs.Programs.{LinearProgram, coefficient}
 use Rattle.pivot_definitions.specs.Tableaus.{SimplexTableau, multiplier_of}
 use Rattle.pivot_definitions.specs.Runs.{IsBest}
 use Rattle.pivot_definitions.specs.Duality.{sum_below, column_sum, right_side_sum, IsReached}
-use Rattle.pivot_definitions.proofs.Ring.{dif_is, difs, dif_same, linear, mul_not_negative, mul_below, times_zero, times_one, zero_times, one_times, below_from_product, positive_from_product}
+use Rattle.pivot_definitions.proofs.Ring.{dif_is, difs, dif_same, linear, mul_not_negative, mul_below, times_zero, times_one, zero_times, below_from_product, positive_from_product}
 use Rattle.pivot_definitions.proofs.Sums.{sum_same, sum_one, sum_none, sum_parts}
 use Rattle.scan_types.specs.declared.offer.Offer.{Offer}
 use Rattle.scan_types.specs.declared.outcome.Outcome.{Outcome}
@@ -22,9 +22,9 @@ use Rattle.finding_definitions.specs.Verdicts.{reach}
 use Rattle.judging_definitions.specs.Columns.{offer_divisor, divided_gain}
 use Rattle.judging_definitions.specs.JudgingPrograms.{limited_program}
 use Rattle.judging_definitions.specs.Readings.{HasLevelOne, class_weights, weighted_classes}
-use Rattle.judging_laws.proofs.ProgramRows.{HasClassRows, HasCap, HasLimitRows, limited_classes, limited_cap, limited_limits}
+use Rattle.judging_laws.proofs.ProgramRows.{limited_classes, limited_cap, limited_limits}
 use Rattle.judging_laws.proofs.Weights.{sum_front, weight_divisor, weighted_is}
-use Rattle.judging_laws.proofs.Levels.{BestFacts, best_facts, no_cap}
+use Rattle.judging_laws.proofs.Levels.{best_facts, no_cap}
 use Rattle.judging_laws.proofs.Means.{by_multipliers, class_part, level_part, gains_by_divisor}
 use Rattle.judging_laws.proofs.Coherence.{any_outcome, level_below, rows_out, times_zero_out, divisor_stands}
 use Rattle.judging_laws.proofs.Directions.{any_offer}
@@ -104,9 +104,9 @@ below_limits classes offers asked tableau reached best below =
     let right : right_side_sum program f ≡ total =
     ap (λ k. sum_below k (λ r. f r *ℤ entry program.right_sides r)) capped.rows
     ∙ ap₂ (λ a b. a +ℤ b)
-      (sum_parts m n (λ r. f r *ℤ entry program.right_sides r)
-        ∙ ap₂ (λ a b. a +ℤ b) (sum_none m (λ r. f r *ℤ entry program.right_sides r) (λ r h. ap (λ z. f r *ℤ z) (rows.right r h) ∙ times_zero (f r))) (sum_same n (λ i. y i *ℤ entry program.right_sides (m + i)) (λ i. y i *ℤ pos ((slice_index_or offers i any_offer).limit * offer_divisor classes (slice_index_or offers i any_offer))) (λ i h. ap (λ z. y i *ℤ z) (limits.right i any_offer h))))
-      (ap (λ z. z *ℤ entry program.right_sides (m + n)) none ∙ zero_times (entry program.right_sides (m + n)))
+    (sum_parts m n (λ r. f r *ℤ entry program.right_sides r)
+    ∙ ap₂ (λ a b. a +ℤ b) (sum_none m (λ r. f r *ℤ entry program.right_sides r) (λ r h. ap (λ z. f r *ℤ z) (rows.right r h) ∙ times_zero (f r))) (sum_same n (λ i. y i *ℤ entry program.right_sides (m + i)) (λ i. y i *ℤ pos ((slice_index_or offers i any_offer).limit * offer_divisor classes (slice_index_or offers i any_offer))) (λ i h. ap (λ z. y i *ℤ z) (limits.right i any_offer h))))
+    (ap (λ z. z *ℤ entry program.right_sides (m + n)) none ∙ zero_times (entry program.right_sides (m + n)))
     ∙ (let e : (pos 0 +ℤ total) +ℤ pos 0 ≡ total = omega (arith, linear) in e) in
     let level = facts.level ∙ ap (λ z. facts.times *ℤ z) right in
     let smaller = mul_below facts.scale (facts.point 0) facts.times facts.bounds.positive less in
@@ -119,7 +119,7 @@ below_limits classes offers asked tableau reached best below =
           (let offer = slice_index_or offers i o in
           let covers = times_zero_out facts.scale _ (facts.bounds.covers (suc i) (omega (arith, h))) in
           let sum = rows_split program m n (suc i) f capped.rows none ∙ ap₂ (λ a b. a +ℤ b) (class_part classes offers asked program tableau i o any_outcome rows h)
-            (sum_one n i (λ k. y k *ℤ coefficient program (m + k) (suc i)) h (λ k within differ. ap (λ z. y k *ℤ z) (limits.elsewhere k (suc i) within (λ e. differ (same_suc k i e))) ∙ times_zero (y k)) ∙ ap (λ z. y i *ℤ z) (limits.here i h) ∙ times_one (y i)) in
+          (sum_one n i (λ k. y k *ℤ coefficient program (m + k) (suc i)) h (λ k within differ. ap (λ z. y k *ℤ z) (limits.elsewhere k (suc i) within (λ e. differ (same_suc k i e))) ∙ times_zero (y k)) ∙ ap (λ z. y i *ℤ z) (limits.here i h) ∙ times_one (y i)) in
           let divided : by_multipliers classes tableau (divided_gain classes offer) any_outcome ≤ℤ y i = omega (arith, linear, covers, same_out _ _ sum) in
           let product = times_at_most (pos (offer_divisor classes offer)) (by_multipliers classes tableau (divided_gain classes offer) any_outcome) (y i) (omega (arith, ints)) divided in
           (y_positive i h, omega (arith, linear, product, same_out _ _ (gains_by_divisor classes tableau offer any_outcome))));
@@ -137,8 +137,7 @@ below_what_is_asked offers asked tableau reached best below =
     let sum = weighted_is asked classes tableau any_outcome facts.not_negative in
     let positive = divisor_stands g (weighted_sum asked measure) _ sum facts.asked_stands in
     let most = reach_bound (pos g) (offer_divisor classes) measure offers facts.limit_multiplier
-      (λ i o h. let l = facts.limits i o h in (l.0, (let gained = weighted_is (gain (slice_index_or offers i o)) classes tableau any_outcome facts.not_negative in omega (arith, linear, l.1, same_out _ _ gained)))) any_offer in
-    (
+    (λ i o h. let l = facts.limits i o h in (l.0, (let gained = weighted_is (gain (slice_index_or offers i o)) classes tableau any_outcome facts.not_negative in omega (arith, linear, l.1, same_out _ _ gained)))) any_offer in (
       below_from_product (pos g) (reach offers measure) (weighted_sum asked measure) positive (omega (arith, linear, most, facts.bound, same_out _ _ sum)),
       positive_from_product (pos g) (weighted_sum asked measure) positive (subst (λ z. pos 0 <ℤ z) (sym sum) facts.asked_stands),
     )

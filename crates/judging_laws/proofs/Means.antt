@@ -1,25 +1,23 @@
 -- The multipliers at the best end of a run, as weights of the classes: what each offer gains by them.
-use Rattle.std.proofs.Common.{◌≡◌, ℕ, zero, suc, ◌+◌, ◌*◌, ◌<◌, List, [], ◌∷◌, length, map, refl, sym, ap, ap₂, ◌∙◌, subst, arith}
+use Rattle.std.proofs.Common.{◌≡◌, ℕ, zero, suc, ◌<◌, List, length, map, refl, sym, ap, ◌∙◌, subst, arith}
 use Rattle.std.specs.Prelude.{slice_index_or, unsigned_abs}
 use Rattle.std.specs.Int.{◌∣◌}
-use Rattle.std.specs.List.{All, enumerate_from}
-use Rattle.std.proofs.lemmas.List.{length-map, get_or-map}
-use lib.IntN.{ℤ, pos, ◌+ℤ◌, ◌-ℤ◌, ◌*ℤ◌, neg_ℤ}
-use lib.Signed.{◌<ℤ◌, ◌≤ℤ◌}
-use borrow.Author.Differences.{same_out, same_in}
-use Rattle.row_definitions.specs.Rows.{row_divisor, divided, entry}
+use Rattle.std.proofs.lemmas.List.{get_or-map}
+use lib.IntN.{ℤ, pos, ◌+ℤ◌, ◌*ℤ◌, neg_ℤ}
+use lib.Signed.{◌≤ℤ◌}
+use Rattle.row_definitions.specs.Rows.{row_divisor, entry}
 use Rattle.row_definitions.proofs.Numbers.{divided-exact}
 use Rattle.row_definitions.proofs.Divisors.{row_divisor_is, Divides-entry}
 use Rattle.pivot_definitions.specs.Programs.{LinearProgram, coefficient}
 use Rattle.pivot_definitions.specs.Tableaus.{SimplexTableau, multiplier_of}
-use Rattle.pivot_definitions.specs.Duality.{sum_below, column_sum}
-use Rattle.pivot_definitions.proofs.Ring.{dif_is, difs, dif_same, linear, mul_not_negative, times_zero, assoc}
+use Rattle.pivot_definitions.specs.Duality.{sum_below}
+use Rattle.pivot_definitions.proofs.Ring.{dif_is, difs, dif_same, linear}
 use Rattle.pivot_definitions.proofs.Sums.{sum_same, sum_scaled_right}
 use Rattle.scan_types.specs.declared.offer.Offer.{Offer}
 use Rattle.scan_types.specs.declared.outcome.Outcome.{Outcome}
 use Rattle.settlement_definitions.specs.Gain.{gain}
 use Rattle.judging_definitions.specs.Columns.{offer_divisor, divided_gain}
-use Rattle.judging_laws.proofs.ProgramRows.{HasClassRows, HasCap}
+use Rattle.judging_laws.proofs.ProgramRows.{HasClassRows}
 
 -- an offer's gain at a class is its divided gain times its divisor
 pub gain_is : (classes : List Outcome) (offer : Offer) (j : ℕ) (x : Outcome) → j < length classes → pos (offer_divisor classes offer) *ℤ divided_gain classes offer (slice_index_or classes j x) ≡ gain offer (slice_index_or classes j x)

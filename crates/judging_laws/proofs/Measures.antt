@@ -1,21 +1,20 @@
 -- What is read as a measure is one.
-use Rattle.std.proofs.Common.{◌≡◌, ◌≢◌, ℕ, zero, suc, ◌+◌, ◌*◌, ◌<◌, ◌≤◌, ◌==◌, Bool, true, false, cond, not, List, [], ◌∷◌, length, map, filter, refl, sym, ap, ◌∙◌, subst, arith}
-use Rattle.std.specs.Prelude.{slice_index, slice_index_or, zip, unsigned_abs}
-use Rattle.std.specs.List.{All, Any, AllPairs}
+use Rattle.std.proofs.Common.{◌≡◌, ◌≢◌, ℕ, zero, suc, ◌<◌, ◌≤◌, ◌==◌, Bool, true, false, cond, not, List, [], ◌∷◌, length, filter, refl, ap, ◌∙◌, subst, arith}
+use Rattle.std.specs.Prelude.{slice_index_or, zip}
+use Rattle.std.specs.List.{Any, AllPairs}
 use Rattle.std.proofs.lemmas.Bool.Decides.{nat_tests}
-use Rattle.std.proofs.lemmas.Int.{ints}
 use lib.IntN.{ℤ, pos, ◌+ℤ◌, ◌*ℤ◌}
-use lib.Signed.{◌<ℤ◌, ◌≤ℤ◌}
+use lib.Signed.{◌<ℤ◌}
 use Rattle.pivot_definitions.proofs.Ring.{linear, times_zero}
 use borrow.Author.Differences.{same_out}
-use Rattle.scan_types.specs.declared.limits.TheConstants.{MOST_PART, MOST_MEASURE_ENTRIES}
+use Rattle.scan_types.specs.declared.limits.TheConstants.{MOST_PART}
 use Rattle.scan_types.specs.declared.offer.Offer.{Offer}
 use Rattle.scan_types.specs.declared.outcome.Outcome.{Outcome}
 use Rattle.scan_types.specs.declared.outcome.Outcome.TheVariants.{Full, Abandoned}
 use Rattle.settlement_definitions.specs.Scores.{HasScoresInRange}
 use Rattle.settlement_definitions.specs.Classes.{classes_of}
 use Rattle.finding_definitions.specs.Arbitrage.{need}
-use Rattle.finding_definitions.specs.Measure.{weighted_sum, final_weight, IsFinal, IsMeasure, IsPriceMeasure}
+use Rattle.finding_definitions.specs.Measure.{weighted_sum, IsFinal, IsMeasure}
 use Rattle.judging_definitions.specs.Readings.{NoneAbove, weighted_classes}
 use Rattle.judging_laws.proofs.ClassFacts.{Each, Apart, each_at, each_filter, filter_each, each_weaker, length_filter, classes_in_range, classes_apart, classes_few}
 
@@ -77,7 +76,7 @@ is_measure offers weights none some =
       distinct = apart_pairs entries (apart_filter stands all (apart_zip classes weights (classes_apart offers)));
       scores = each_at (λ (e : Outcome × ℕ). HasScoresInRange e.0) entries (each_filter (λ (e : Outcome × ℕ). HasScoresInRange e.0) stands all (each_zip HasScoresInRange classes weights (classes_in_range offers)));
       weights = each_at (λ (e : Outcome × ℕ). (1 ≤ e.1) × (e.1 ≤ MOST_PART)) entries
-        (both_each (λ e. 1 ≤ e.1) (λ e. e.1 ≤ MOST_PART) entries (each_weaker (λ e. stands e ≡ true) (λ e. 1 ≤ e.1) (λ e h. above_zero e.1 h) entries (filter_each stands all))
+          (both_each (λ e. 1 ≤ e.1) (λ e. e.1 ≤ MOST_PART) entries (each_weaker (λ e. stands e ≡ true) (λ e. 1 ≤ e.1) (λ e h. above_zero e.1 h) entries (filter_each stands all))
           (each_filter (λ (e : Outcome × ℕ). e.1 ≤ MOST_PART) stands all (each_weight (λ n. n ≤ MOST_PART) classes weights none)));
     }
 

@@ -1,24 +1,24 @@
 -- Stakes of a program with limits are within the limits, and reach what is asked for.
-use Rattle.std.proofs.Common.{◌≡◌, ◌≢◌, ℕ, zero, suc, ◌+◌, ◌*◌, ◌/◌, ◌<◌, ◌≤◌, ◌==◌, Bool, true, List, [], ◌∷◌, length, map, refl, sym, ap, ap₂, ◌∙◌, subst, arith, mul-pos}
-use Rattle.std.specs.Prelude.{Option, Some, None, slice_index_or, unsigned_abs, sum_by}
+use Rattle.std.proofs.Common.{◌≡◌, ◌≢◌, ℕ, zero, suc, ◌+◌, ◌*◌, ◌/◌, ◌<◌, ◌≤◌, List, [], ◌∷◌, length, map, refl, sym, ap, ap₂, ◌∙◌, subst, arith, mul-pos}
+use Rattle.std.specs.Prelude.{Some, slice_index_or, unsigned_abs, sum_by}
 use Rattle.std.specs.Int.{◌∣◌}
 use Rattle.std.specs.List.{All, AllZip, enumerate_from, range_with_len}
-use Rattle.std.proofs.lemmas.List.{length-map, get_or-map}
+use Rattle.std.proofs.lemmas.List.{get_or-map}
 use Rattle.std.proofs.lemmas.List.Elements.{All-cons, All-nil, All-weaker, All-head, All-tail}
 use Rattle.std.proofs.lemmas.Int.{ints}
 use Rattle.std.proofs.lemmas.Nat.{le-div}
 use Rattle.std.proofs.lemmas.List.Sums.{sum_by-cons}
-use Rattle.std.proofs.Math.Nat.{mul-le-mul_left, mul-le-mul_right, div-mul_cancel, div-le_of_le-mul, div-mul-le_self, le_of_mul-le-mul_left, dvd-mul_left, dvd-mul_right, dvd-mul_right_of_dvd, dvd-mul_left_of_dvd}
-use lib.IntN.{ℤ, pos, negsuc, ◌+ℤ◌, ◌-ℤ◌, ◌*ℤ◌, neg_ℤ, pos-*ℤ-pos}
+use Rattle.std.proofs.Math.Nat.{mul-le-mul_left, mul-le-mul_right, div-mul_cancel, div-le_of_le-mul, div-mul-le_self, le_of_mul-le-mul_left, dvd-mul_right, dvd-mul_left_of_dvd}
+use lib.IntN.{ℤ, pos, negsuc, ◌+ℤ◌, ◌-ℤ◌, ◌*ℤ◌, pos-*ℤ-pos}
 use lib.Signed.{◌<ℤ◌, ◌≤ℤ◌}
-use borrow.Author.Differences.{same_out, same_in}
-use Rattle.row_definitions.specs.Rows.{entry, row_divisor}
+use borrow.Author.Differences.{same_out}
+use Rattle.row_definitions.specs.Rows.{entry}
 use Rattle.row_definitions.proofs.Primitives.{row_divisor-pos}
 use Rattle.pivot_definitions.specs.Programs.{LinearProgram, coefficient}
 use Rattle.pivot_definitions.specs.Tableaus.{SimplexTableau}
 use Rattle.pivot_definitions.specs.Runs.{IsBest}
-use Rattle.pivot_definitions.specs.Duality.{sum_below, row_sum, IsReached}
-use Rattle.pivot_definitions.proofs.Ring.{dif_is, difs, dif_same, linear, mul_not_negative, at_most_from_product, one_times, zero_times, by_eq}
+use Rattle.pivot_definitions.specs.Duality.{row_sum, IsReached}
+use Rattle.pivot_definitions.proofs.Ring.{dif_is, difs, dif_same, linear, mul_not_negative, at_most_from_product, one_times, zero_times}
 use Rattle.pivot_definitions.proofs.Sums.{sum_one}
 use Rattle.scan_types.specs.declared.offer.Offer.{Offer}
 use Rattle.scan_types.specs.declared.outcome.Outcome.{Outcome}
@@ -35,7 +35,7 @@ use Rattle.judging_definitions.specs.Columns.{offer_divisor}
 use Rattle.judging_definitions.specs.JudgingPrograms.{limited_program, plain_need, slack_need}
 use Rattle.judging_definitions.specs.Stakes.{Fraction, column_value, stake_in_column, fractional_stakes, all_numbers, MakesWhole, multiples, floors}
 use Rattle.judging_definitions.specs.Readings.{HasLevelOne, AreParts}
-use Rattle.judging_laws.proofs.ProgramRows.{HasLimitRows, limited_limits, limited_cap, limited_classes}
+use Rattle.judging_laws.proofs.ProgramRows.{limited_limits, limited_cap, limited_classes}
 use Rattle.judging_laws.proofs.Levels.{BestFacts, best_facts, ValueFacts, value_facts}
 use Rattle.judging_laws.proofs.Gains.{all_columns, stakes_reach}
 use Rattle.judging_laws.proofs.Directions.{any_offer}
@@ -69,9 +69,10 @@ place_in_range a (suc n) (suc k) h =
 -- what holds of each offer with its number
 zip_enumerate : (R : Offer → ℕ → Type 0) (f : ℕ × Offer → ℕ) (n : ℕ) (offers : List Offer) → ((i : ℕ) (o : Offer) → i < length offers → R (slice_index_or offers i o) (f (n + i, slice_index_or offers i o))) → AllZip R offers (map f (enumerate_from n offers))
 zip_enumerate R f n [] each = tt
-zip_enumerate R f n (offer ∷ offers) each =
-    (subst (λ m. R offer (f (m, offer))) (let e : n + 0 ≡ n = omega arith in e) (each 0 offer (omega arith)),
-    zip_enumerate R f (n + 1) offers (λ i o h. subst (λ m. R (slice_index_or offers i o) (f (m, slice_index_or offers i o))) (let e : n + suc i ≡ n + 1 + i = omega arith in e) (each (suc i) o (omega (arith, h)))))
+zip_enumerate R f n (offer ∷ offers) each = (
+  subst (λ m. R offer (f (m, offer))) (let e : n + 0 ≡ n = omega arith in e) (each 0 offer (omega arith)),
+  zip_enumerate R f (n + 1) offers (λ i o h. subst (λ m. R (slice_index_or offers i o) (f (m, slice_index_or offers i o))) (let e : n + suc i ≡ n + 1 + i = omega arith in e) (each (suc i) o (omega (arith, h)))),
+)
 
 -- ---- one stake
 
@@ -143,7 +144,7 @@ parts_within offers asked tableau d reached facts =
     let s = stake_of offers tableau in
     let f : Fraction → ℕ = λ x. d * x.numerator / x.denominator in
     subst (AllZip (λ offer part. part ≤ offer.limit * d) offers) (sym (map_map f s (enumerate_from 0 offers)))
-      (zip_enumerate (λ offer part. part ≤ offer.limit * d) (λ pair. f (s pair)) 0 offers (λ i o h. part_within d (slice_index_or offers i o).limit (s (0 + i, slice_index_or offers i o)) (limited_stake offers asked tableau reached facts i o h)))
+    (zip_enumerate (λ offer part. part ≤ offer.limit * d) (λ pair. f (s pair)) 0 offers (λ i o h. part_within d (slice_index_or offers i o).limit (s (0 + i, slice_index_or offers i o)) (limited_stake offers asked tableau reached facts i o h)))
 
 -- and so are stakes rounded down
 pub floors_within : (offers : List Offer) (asked : Outcome → ℤ) (tableau : SimplexTableau) → IsReached (limited_program (classes_of offers) offers asked) tableau → BestFacts (limited_program (classes_of offers) offers asked) tableau → AllZip (λ offer stake. stake ≤ offer.limit) offers (floors (fractional_stakes (classes_of offers) offers (all_numbers offers) tableau))
@@ -151,7 +152,7 @@ floors_within offers asked tableau reached facts =
     let s = stake_of offers tableau in
     let f : Fraction → ℕ = λ x. x.numerator / x.denominator in
     subst (AllZip (λ offer stake. stake ≤ offer.limit) offers) (sym (map_map f s (enumerate_from 0 offers)))
-      (zip_enumerate (λ offer stake. stake ≤ offer.limit) (λ pair. f (s pair)) 0 offers (λ i o h. floor_within (slice_index_or offers i o).limit (s (0 + i, slice_index_or offers i o)) (limited_stake offers asked tableau reached facts i o h)))
+    (zip_enumerate (λ offer stake. stake ≤ offer.limit) (λ pair. f (s pair)) 0 offers (λ i o h. floor_within (slice_index_or offers i o).limit (s (0 + i, slice_index_or offers i o)) (limited_stake offers asked tableau reached facts i o h)))
 
 -- ---- a number that makes all stakes whole
 
@@ -173,9 +174,10 @@ whole_exists (f ∷ fs) has =
 
 denominators_from : (s : ℕ × Offer → Fraction) (n : ℕ) (offers : List Offer) → ((i : ℕ) (o : Offer) → i < length offers → 1 ≤ (s (n + i, slice_index_or offers i o)).denominator) → HasDenominators (map s (enumerate_from n offers))
 denominators_from s n [] each = tt
-denominators_from s n (offer ∷ offers) each =
-    (subst (λ m. 1 ≤ (s (m, offer)).denominator) (let e : n + 0 ≡ n = omega arith in e) (each 0 offer (omega arith)),
-    denominators_from s (n + 1) offers (λ i o h. subst (λ m. 1 ≤ (s (m, slice_index_or offers i o)).denominator) (let e : n + suc i ≡ n + 1 + i = omega arith in e) (each (suc i) o (omega (arith, h)))))
+denominators_from s n (offer ∷ offers) each = (
+  subst (λ m. 1 ≤ (s (m, offer)).denominator) (let e : n + 0 ≡ n = omega arith in e) (each 0 offer (omega arith)),
+  denominators_from s (n + 1) offers (λ i o h. subst (λ m. 1 ≤ (s (m, slice_index_or offers i o)).denominator) (let e : n + suc i ≡ n + 1 + i = omega arith in e) (each (suc i) o (omega (arith, h)))),
+)
 
 pub limited_denominators : (offers : List Offer) (asked : Outcome → ℤ) (tableau : SimplexTableau) → IsReached (limited_program (classes_of offers) offers asked) tableau → BestFacts (limited_program (classes_of offers) offers asked) tableau → HasDenominators (fractional_stakes (classes_of offers) offers (all_numbers offers) tableau)
 limited_denominators offers asked tableau reached facts = denominators_from (stake_of offers tableau) 0 offers (λ i o h. (limited_stake offers asked tableau reached facts i o h).denominator)
@@ -224,7 +226,7 @@ rounding_costs (offer ∷ offers) d (part ∷ parts) x some =
     let one : pos (2 * d * slack offer x) ≡ k *ℤ pos (slack offer x) = sym (pos-*ℤ-pos (2 * d) (slack offer x)) in
     let step = sum_step c (net offer (part / d) x) (total_net offers (map (λ p. p / d) parts) x) k (pos (slack offer x)) (pos slacks) in
     subst (λ z. total_gain (offer ∷ offers) (part ∷ parts) x ≤ℤ (c *ℤ total_net (offer ∷ offers) (map (λ p. p / d) (part ∷ parts)) x +ℤ k *ℤ z)) (sym all)
-      (subst (λ z. (pos part *ℤ gain offer x +ℤ total_gain offers parts x) ≤ℤ z) step (add_le _ _ _ _ (subst (λ z. (pos part *ℤ gain offer x) ≤ℤ (c *ℤ net offer (part / d) x +ℤ z)) one here) rest))
+    (subst (λ z. (pos part *ℤ gain offer x +ℤ total_gain offers parts x) ≤ℤ z) step (add_le _ _ _ _ (subst (λ z. (pos part *ℤ gain offer x) ≤ℤ (c *ℤ net offer (part / d) x +ℤ z)) one here) rest))
 
 need_step : (d e s : ℤ) → d *ℤ (pos 2 *ℤ (pos 1000 *ℤ e +ℤ s)) ≡ d *ℤ (pos 2000 *ℤ e) +ℤ (pos 2 *ℤ d) *ℤ s
 need_step d e s = rw (dif_is d, dif_is e, dif_is s) (simp difs (dif_same _ _ _ _ (omega arith)))
@@ -258,7 +260,7 @@ slack_floors offers tableau reached best one =
     let rounded = floors_are d stakes whole.1 has whole.2 in
     let at : All (λ y. need y ≤ℤ total_net offers (floors stakes) y) classes = λ j x h.
     subst (λ s. need (slice_index_or classes j x) ≤ℤ total_net offers s (slice_index_or classes j x)) rounded
-      (net_reached offers d (multiples d stakes) (slice_index_or classes j x) whole.1 (stakes_reach classes offers (all_numbers offers) offers asked (limited_program classes offers asked) tableau facts d j x any_offer (all_columns offers) reached (limited_classes classes offers asked) one whole.2 h)) in
+    (net_reached offers d (multiples d stakes) (slice_index_or classes j x) whole.1 (stakes_reach classes offers (all_numbers offers) offers asked (limited_program classes offers asked) tableau facts d j x any_offer (all_columns offers) reached (limited_classes classes offers asked) one whole.2 h)) in
     record {
       within_limits = floors_within offers asked tableau reached facts;
       wins = bound_from_classes offers need (total_net offers (floors stakes)) (equal_needs offers) (equal_nets offers (floors stakes)) at;
@@ -279,5 +281,5 @@ parts_reach offers tableau parts reached best one are =
       divides = are.common.common.above_zero;
       within_limits = subst (AllZip (λ offer part. part ≤ offer.limit * d) offers) (sym are.are) (parts_within offers plain_need tableau d reached facts);
       wins = subst (λ ps. (x : Outcome) → (pos (2000 * d) *ℤ need x) ≤ℤ total_gain offers ps x) (sym are.are)
-        (bound_from_classes offers (λ y. pos (2000 * d) *ℤ need y) (total_gain offers (multiples d stakes)) (λ x y same. ap (λ z. pos (2000 * d) *ℤ z) (equal_needs offers x y same)) (equal_gains offers (multiples d stakes)) at);
+          (bound_from_classes offers (λ y. pos (2000 * d) *ℤ need y) (total_gain offers (multiples d stakes)) (λ x y same. ap (λ z. pos (2000 * d) *ℤ z) (equal_needs offers x y same)) (equal_gains offers (multiples d stakes)) at);
     }

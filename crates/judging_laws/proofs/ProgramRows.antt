@@ -1,13 +1,12 @@
 -- The rows of the two programs of a sheet.
-use Rattle.std.proofs.Common.{◌≡◌, ◌≢◌, ℕ, zero, suc, ◌+◌, ◌*◌, ◌-◌, ◌<◌, ◌≤◌, inl, inr, List, [], ◌∷◌, ◌++◌, length, map, replicate, refl, sym, ap, ap₂, ◌∙◌, subst, arith, append_assoc, append-nil}
+use Rattle.std.proofs.Common.{◌≡◌, ◌≢◌, ℕ, zero, suc, ◌+◌, ◌*◌, ◌-◌, ◌<◌, List, [], ◌∷◌, ◌++◌, length, map, refl, sym, ap, ap₂, ◌∙◌, subst, arith, append_assoc, append-nil}
 use Rattle.std.specs.Prelude.{slice_index_or}
-use Rattle.std.specs.List.{All, flat_map, range_with_len}
+use Rattle.std.specs.List.{All, range_with_len}
 use Rattle.std.proofs.lemmas.List.{length-append, length-map, get_or-map, get_or_append_left, get_or_at, get_or-append_right}
 use Rattle.std.proofs.lemmas.List.FromFn.{length-map-range_with_len, get_or-map-range_with_len}
 use Rattle.std.proofs.lemmas.List.Elements.{All-append, All-map, All-cons, All-nil}
 use lib.IntN.{ℤ, pos, neg_ℤ}
 use lib.Signed.{◌≤ℤ◌}
-use borrow.Author.Differences.{same_out}
 use Rattle.row_definitions.specs.Rows.{entry}
 use Rattle.pivot_definitions.specs.Programs.{LinearProgram, IsProgram, IsCapped, coefficient_row, coefficient, unit_row}
 use Rattle.pivot_definitions.proofs.Built.{length-unit, unit_here, All-range}
@@ -17,8 +16,8 @@ use Rattle.scan_types.specs.declared.offer.Offer.{Offer}
 use Rattle.scan_types.specs.declared.outcome.Outcome.{Outcome}
 use Rattle.finding_definitions.specs.Arbitrage.{need}
 use Rattle.judging_definitions.specs.Columns.{divided_gain, offer_divisor}
-use Rattle.judging_definitions.specs.JudgingPrograms.{class_row, class_rows, homogeneous_program, limit_rows, limited_program}
-use Rattle.judging_laws.proofs.FlatRows.{flat, flat-map, flat-append, IsMadeOf, row_of, coefficient_count}
+use Rattle.judging_definitions.specs.JudgingPrograms.{class_row, homogeneous_program, limited_program}
+use Rattle.judging_laws.proofs.FlatRows.{flat-map, flat-append, IsMadeOf, row_of, coefficient_count}
 
 -- ---- rows of classes
 
@@ -90,8 +89,7 @@ capped_from : (program : LinearProgram) (before : List (List ℤ)) (rights : Lis
 capped_from program before rights n columns made right count small =
     let cap = cap_from program before rights n made right count in
     let last : program.rows - 1 ≡ length before = (let e = cap.rows in omega arith) in
-    let row : coefficient_row program (length before) ≡ unit_row (suc n) 0 = row_of program (before ++ unit_row (suc n) 0 ∷ []) (length before) made (omega (arith, cap.rows)) ∙ get_or_at before (unit_row (suc n) 0) [] [] (length before) refl in
-    (
+    let row : coefficient_row program (length before) ≡ unit_row (suc n) 0 = row_of program (before ++ unit_row (suc n) 0 ∷ []) (length before) made (omega (arith, cap.rows)) ∙ get_or_at before (unit_row (suc n) 0) [] [] (length before) refl in (
       record {
         some_column = omega (arith, columns);
         some_row = omega (arith, cap.rows);
@@ -121,7 +119,7 @@ homogeneous_made classes offers =
 pub homogeneous_is_capped : (classes : List Outcome) (offers : List Offer) → IsProgram (homogeneous_program classes offers) × IsCapped (homogeneous_program classes offers)
 homogeneous_is_capped classes offers =
     capped_from (homogeneous_program classes offers) (map (class_row classes offers need) classes) (map (λ (x : Outcome). pos 0) classes) (length offers) refl (homogeneous_made classes offers) refl
-      (length-map classes (λ (x : Outcome). pos 0) ∙ sym (length-map classes (class_row classes offers need))) (zeros_not_negative classes)
+    (length-map classes (λ (x : Outcome). pos 0) ∙ sym (length-map classes (class_row classes offers need))) (zeros_not_negative classes)
 
 pub homogeneous_classes : (classes : List Outcome) (offers : List Offer) → HasClassRows classes offers need (homogeneous_program classes offers)
 homogeneous_classes classes offers = class_rows_from classes offers need (homogeneous_program classes offers) (unit_row (suc (length offers)) 0 ∷ []) (pos 1 ∷ []) (homogeneous_made classes offers) refl refl (omega arith)
@@ -129,8 +127,8 @@ homogeneous_classes classes offers = class_rows_from classes offers need (homoge
 pub homogeneous_cap : (classes : List Outcome) (offers : List Offer) → HasCap (homogeneous_program classes offers) (length classes)
 homogeneous_cap classes offers =
     subst (HasCap (homogeneous_program classes offers)) (length-map classes (class_row classes offers need))
-      (cap_from (homogeneous_program classes offers) (map (class_row classes offers need) classes) (map (λ (x : Outcome). pos 0) classes) (length offers) (homogeneous_made classes offers) refl
-        (length-map classes (λ (x : Outcome). pos 0) ∙ sym (length-map classes (class_row classes offers need))))
+    (cap_from (homogeneous_program classes offers) (map (class_row classes offers need) classes) (map (λ (x : Outcome). pos 0) classes) (length offers) (homogeneous_made classes offers) refl
+    (length-map classes (λ (x : Outcome). pos 0) ∙ sym (length-map classes (class_row classes offers need))))
 
 -- ---- the program with limits
 
@@ -167,31 +165,31 @@ limited_made classes offers asked =
           ap₂ (λ a b. a ++ b) (ap₂ (λ a b. a ++ b) (flat-map f classes) (flat-map g (range_with_len 1 (length offers))) ∙ sym (flat-append (map f classes) (limits_list (length offers)))) (sym (append-nil u))
           ∙ sym (flat-append (before_cap classes offers asked) (u ∷ []));
       widths = All-append P (before_cap classes offers asked) (u ∷ [])
-        (All-append P (map f classes) (limits_list (length offers)) (class_rows-wide classes classes offers asked) (All-map P g (range_with_len 1 (length offers)) (All-range (λ c. P (g c)) 1 (length offers) (λ c low high. length-unit (suc (length offers)) c (omega (arith, high))))))
-        (All-cons P u [] (length-unit (suc (length offers)) 0 (omega arith)) (All-nil P));
+          (All-append P (map f classes) (limits_list (length offers)) (class_rows-wide classes classes offers asked) (All-map P g (range_with_len 1 (length offers)) (All-range (λ c. P (g c)) 1 (length offers) (λ c low high. length-unit (suc (length offers)) c (omega (arith, high))))))
+          (All-cons P u [] (length-unit (suc (length offers)) 0 (omega arith)) (All-nil P));
       count = length-append (before_cap classes offers asked) (u ∷ []) ∙ ap (λ n. n + 1) (length-before_cap classes offers asked);
     }
 
 pub limited_is_capped : (classes : List Outcome) (offers : List Offer) (asked : Outcome → ℤ) → IsProgram (limited_program classes offers asked) × IsCapped (limited_program classes offers asked)
 limited_is_capped classes offers asked =
     capped_from (limited_program classes offers asked) (before_cap classes offers asked) (before_one classes offers) (length offers) refl (limited_made classes offers asked) refl
-      (length-before_one classes offers ∙ sym (length-before_cap classes offers asked))
-      (All-append (λ x. pos 0 ≤ℤ x) (map (λ (x : Outcome). pos 0) classes) (map (λ (offer : Offer). pos (offer.limit * offer_divisor classes offer)) offers) (zeros_not_negative classes)
-        (All-map (λ x. pos 0 ≤ℤ x) (λ (offer : Offer). pos (offer.limit * offer_divisor classes offer)) offers (λ k o h. omega (arith, linear))))
+    (length-before_one classes offers ∙ sym (length-before_cap classes offers asked))
+    (All-append (λ x. pos 0 ≤ℤ x) (map (λ (x : Outcome). pos 0) classes) (map (λ (offer : Offer). pos (offer.limit * offer_divisor classes offer)) offers) (zeros_not_negative classes)
+    (All-map (λ x. pos 0 ≤ℤ x) (λ (offer : Offer). pos (offer.limit * offer_divisor classes offer)) offers (λ k o h. omega (arith, linear))))
 
 pub limited_classes : (classes : List Outcome) (offers : List Offer) (asked : Outcome → ℤ) → HasClassRows classes offers asked (limited_program classes offers asked)
 limited_classes classes offers asked =
     let u = unit_row (suc (length offers)) 0 in
     class_rows_from classes offers asked (limited_program classes offers asked) (limits_list (length offers) ++ u ∷ []) (map (λ (offer : Offer). pos (offer.limit * offer_divisor classes offer)) offers ++ pos 1 ∷ [])
-      (subst (IsMadeOf (limited_program classes offers asked)) (append_assoc (map (class_row classes offers asked) classes) (limits_list (length offers)) (u ∷ [])) (limited_made classes offers asked))
-      (append_assoc (map (λ (x : Outcome). pos 0) classes) (map (λ (offer : Offer). pos (offer.limit * offer_divisor classes offer)) offers) (pos 1 ∷ [])) refl
-      (omega (arith, length-append (limits_list (length offers)) (u ∷ [])))
+    (subst (IsMadeOf (limited_program classes offers asked)) (append_assoc (map (class_row classes offers asked) classes) (limits_list (length offers)) (u ∷ [])) (limited_made classes offers asked))
+    (append_assoc (map (λ (x : Outcome). pos 0) classes) (map (λ (offer : Offer). pos (offer.limit * offer_divisor classes offer)) offers) (pos 1 ∷ [])) refl
+    (omega (arith, length-append (limits_list (length offers)) (u ∷ [])))
 
 pub limited_cap : (classes : List Outcome) (offers : List Offer) (asked : Outcome → ℤ) → HasCap (limited_program classes offers asked) (length classes + length offers)
 limited_cap classes offers asked =
     subst (HasCap (limited_program classes offers asked)) (length-before_cap classes offers asked)
-      (cap_from (limited_program classes offers asked) (before_cap classes offers asked) (before_one classes offers) (length offers) (limited_made classes offers asked) refl
-        (length-before_one classes offers ∙ sym (length-before_cap classes offers asked)))
+    (cap_from (limited_program classes offers asked) (before_cap classes offers asked) (before_one classes offers) (length offers) (limited_made classes offers asked) refl
+    (length-before_one classes offers ∙ sym (length-before_cap classes offers asked)))
 
 -- what the row of a limit says: the offer's column is at most the limit by the divisor
 pub record HasLimitRows (classes : List Outcome) (offers : List Offer) (program : LinearProgram) : Type 0 where

@@ -1,9 +1,9 @@
 -- The finding of a sheet is right.
-use Rattle.std.proofs.Common.{◌≡◌, ℕ, zero, suc, ◌+◌, ◌*◌, ◌/◌, ◌<◌, ◌≤◌, ◌⊎◌, inl, inr, List, [], ◌∷◌, length, map, refl, sym, ap, ap₂, ◌∙◌, subst, arith}
-use Rattle.std.specs.List.{All, AllZip}
+use Rattle.std.proofs.Common.{◌≡◌, ℕ, ◌*◌, ◌/◌, ◌≤◌, inl, inr, List, [], ◌∷◌, map, refl, sym, ap, ◌∙◌, subst, arith}
+use Rattle.std.specs.List.{AllZip}
 use Rattle.std.proofs.lemmas.List.Elements.{All-head, All-tail}
 use lib.IntN.{ℤ, pos, ◌+ℤ◌, ◌*ℤ◌}
-use lib.Signed.{◌<ℤ◌, ◌≤ℤ◌}
+use lib.Signed.{◌<ℤ◌}
 use borrow.Author.Differences.{same_out}
 use Rattle.pivot_definitions.specs.Programs.{LinearProgram, IsProgram, IsCapped}
 use Rattle.pivot_definitions.specs.Tableaus.{SimplexTableau, built, kept}
@@ -21,17 +21,16 @@ use Rattle.finding_definitions.specs.Verdicts.{IsRightCoherent, IsRightThin, IsR
 use Rattle.finding_definitions.specs.Findings.{IsRight}
 use Rattle.finding_definitions.specs.Fractions.{Fractions}
 use Rattle.finding_definitions.specs.declared.finding.Finding.{Finding}
-use Rattle.finding_definitions.specs.declared.finding.Finding.TheVariants.{Arb, Coherent, Thin, Narrow, Wide, OutOfPivots}
+use Rattle.finding_definitions.specs.declared.finding.Finding.TheVariants.{Coherent, Thin, Narrow}
 use Rattle.finding_definitions.specs.declared.finding.Stage.{Stage}
 use Rattle.finding_definitions.specs.declared.finding.Stage.TheVariants.{First, Slack, Plain}
-use Rattle.finding_definitions.specs.declared.finding.WideAt.TheVariants.{Entry}
 use Rattle.judging_definitions.specs.Columns.{leading_offers}
 use Rattle.judging_definitions.specs.JudgingPrograms.{homogeneous_program, limited_program, plain_need, slack_need}
-use Rattle.judging_definitions.specs.Stakes.{fractional_stakes, all_numbers, floors, multiples}
-use Rattle.judging_definitions.specs.Readings.{HasLevelOne, NoneAbove, Reading, Reads, ReadsWide, class_weights, weighted_classes, MeasureReads, IsDirection, DirectionReads, AreParts, PartsRead}
-use Rattle.judging_definitions.specs.ExactFinding.{AfterRun, AfterReading, Either, IsFoundWithinLimits, IsFoundByPlainRun, IsFoundBySlackRun, IsFoundInDirection, IsExactFinding}
+use Rattle.judging_definitions.specs.Stakes.{fractional_stakes, all_numbers, floors}
+use Rattle.judging_definitions.specs.Readings.{HasLevelOne, NoneAbove, Reading, Reads, class_weights, weighted_classes, MeasureReads, IsDirection, DirectionReads, AreParts, PartsRead}
+use Rattle.judging_definitions.specs.ExactFinding.{AfterRun, AfterReading, IsFoundWithinLimits, IsFoundByPlainRun, IsFoundBySlackRun, IsFoundInDirection, IsExactFinding}
 use Rattle.judging_laws.proofs.ProgramRows.{homogeneous_is_capped, limited_is_capped}
-use Rattle.judging_laws.proofs.Levels.{BestFacts, best_facts}
+use Rattle.judging_laws.proofs.Levels.{best_facts}
 use Rattle.judging_laws.proofs.KeptReadings.{same_weights, level_kept, level_plain, stakes_scaled, read_alike, direction_there, parts_there}
 use Rattle.judging_laws.proofs.Measures.{is_measure, final_stands, some_entry}
 use Rattle.judging_laws.proofs.Coherence.{coherent}
@@ -159,41 +158,41 @@ within_limits_right offers pivots end measure finding slackened at one (inr (fai
     let stakes = fractional_stakes classes offers (all_numbers offers) end in
     let alike = read_alike stakes (fractional_stakes classes offers (all_numbers offers) (kept end)) (stakes_scaled classes offers (all_numbers offers) end) in
     after_reading offers (PartsRead stakes) Plain pivots (λ parts. finding ≡ Narrow parts measure) finding
-      (λ parts are is. subst (IsRight offers) (sym is)
-        (subst (λ m. IsRightNarrow offers parts.divisor parts.parts m) (sym slackened.is)
-          (narrow_right offers parts slackened.tableau (kept end) slackened.reached slackened.best slackened.below slackened.small at.reached at.best (level_kept end one) (parts_there stakes (fractional_stakes classes offers (all_numbers offers) (kept end)) (Reads parts) alike are) (λ arbitrage. fails (subst (IsArbitrage offers) (sym alike.floors_same) arbitrage)))))
-      next
+    (λ parts are is. subst (IsRight offers) (sym is)
+    (subst (λ m. IsRightNarrow offers parts.divisor parts.parts m) (sym slackened.is)
+    (narrow_right offers parts slackened.tableau (kept end) slackened.reached slackened.best slackened.below slackened.small at.reached at.best (level_kept end one) (parts_there stakes (fractional_stakes classes offers (all_numbers offers) (kept end)) (Reads parts) alike are) (λ arbitrage. fails (subst (IsArbitrage offers) (sym alike.floors_same) arbitrage)))))
+    next
 
 plain_right : (offers : List Offer) (budget : ℕ) (direction : Fractions) (measure : List (Outcome × ℕ)) (finding : Finding) → Directed offers direction → Slackened offers measure → IsFoundByPlainRun offers budget direction measure finding → IsRight offers finding
 plain_right offers budget direction measure finding directed slackened found =
     let classes = classes_of offers in
     let program = limited_program classes offers plain_need in
     after_run offers program budget Plain _ finding (λ pivots end ends next.
-      let at = stands program budget pivots end (limited_is_capped classes offers plain_need) ends in
-      elim next [
-        | inl (one, more) ↦ within_limits_right offers pivots end measure finding slackened at one more
-        | inr (below, more) ↦ after_reading offers (MeasureReads classes end) Plain pivots (λ m. finding ≡ Thin direction m) finding
+    let at = stands program budget pivots end (limited_is_capped classes offers plain_need) ends in
+    elim next [
+      | inl (one, more) ↦ within_limits_right offers pivots end measure finding slackened at one more
+      | inr (below, more) ↦ after_reading offers (MeasureReads classes end) Plain pivots (λ m. finding ≡ Thin direction m) finding
           (λ m reads is. subst (IsRight offers) (sym is)
-            (subst (λ q. IsRightThin offers direction.divisor direction.parts q) (sym (kept_measure classes end m reads.1))
-              (thin_right offers direction directed.tableau (kept end) directed.reached directed.best directed.one directed.is at.reached at.best (below_kept end below) (kept_small classes end reads.0))))
+          (subst (λ q. IsRightThin offers direction.divisor direction.parts q) (sym (kept_measure classes end m reads.1))
+          (thin_right offers direction directed.tableau (kept end) directed.reached directed.best directed.one directed.is at.reached at.best (below_kept end below) (kept_small classes end reads.0))))
           more
-      ]) found
+    ]) found
 
 slack_right : (offers : List Offer) (budget : ℕ) (direction : Fractions) (finding : Finding) → Directed offers direction → IsFoundBySlackRun offers budget direction finding → IsRight offers finding
 slack_right offers budget direction finding directed found =
     let classes = classes_of offers in
     let program = limited_program classes offers (slack_need offers) in
     after_run offers program budget Slack _ finding (λ pivots end ends next.
-      let at = stands program budget pivots end (limited_is_capped classes offers (slack_need offers)) ends in
-      let stakes = fractional_stakes classes offers (all_numbers offers) end in
-      let alike = read_alike stakes (fractional_stakes classes offers (all_numbers offers) (kept end)) (stakes_scaled classes offers (all_numbers offers) end) in
-      elim next [
-        | inl (one, is) ↦ subst (IsRight offers) (sym is) (subst (IsArbitrage offers) (sym alike.floors_same) (slack_floors offers (kept end) at.reached at.best (level_kept end one)))
-        | inr (below, more) ↦ after_reading offers (MeasureReads classes end) Slack pivots (λ m. IsFoundByPlainRun offers budget direction m finding) finding
+    let at = stands program budget pivots end (limited_is_capped classes offers (slack_need offers)) ends in
+    let stakes = fractional_stakes classes offers (all_numbers offers) end in
+    let alike = read_alike stakes (fractional_stakes classes offers (all_numbers offers) (kept end)) (stakes_scaled classes offers (all_numbers offers) end) in
+    elim next [
+      | inl (one, is) ↦ subst (IsRight offers) (sym is) (subst (IsArbitrage offers) (sym alike.floors_same) (slack_floors offers (kept end) at.reached at.best (level_kept end one)))
+      | inr (below, more) ↦ after_reading offers (MeasureReads classes end) Slack pivots (λ m. IsFoundByPlainRun offers budget direction m finding) finding
           (λ m reads next. plain_right offers budget direction m finding directed
-            (record { tableau = kept end; reached = at.reached; best = at.best; below = below_kept end below; small = kept_small classes end reads.0; is = kept_measure classes end m reads.1 }) next)
+          (record { tableau = kept end; reached = at.reached; best = at.best; below = below_kept end below; small = kept_small classes end reads.0; is = kept_measure classes end m reads.1 }) next)
           more
-      ]) found
+    ]) found
 
 direction_right : (offers : List Offer) (budget : ℕ) (direction : Fractions) (finding : Finding) → Directed offers direction → IsFoundInDirection offers budget direction finding → IsRight offers finding
 direction_right offers budget direction finding directed (stakes, are, inl (arbitrage, is)) = subst (IsRight offers) (sym is) arbitrage
@@ -208,16 +207,16 @@ exact_finding_right offers budget finding found =
     let numbers = map (λ (e : ℕ × Offer). e.0) leading in
     let program = homogeneous_program classes columns in
     after_run offers program budget First _ finding (λ pivots end ends next.
-      let at = stands program budget pivots end (homogeneous_is_capped classes columns) ends in
-      let stakes = fractional_stakes classes offers numbers end in
-      let alike = read_alike stakes (fractional_stakes classes offers numbers (kept end)) (stakes_scaled classes offers numbers end) in
-      elim next [
-        | inl (one, more) ↦ after_reading offers (DirectionReads offers stakes) First pivots (λ d. IsFoundInDirection offers budget d finding) finding
+    let at = stands program budget pivots end (homogeneous_is_capped classes columns) ends in
+    let stakes = fractional_stakes classes offers numbers end in
+    let alike = read_alike stakes (fractional_stakes classes offers numbers (kept end)) (stakes_scaled classes offers numbers end) in
+    elim next [
+      | inl (one, more) ↦ after_reading offers (DirectionReads offers stakes) First pivots (λ d. IsFoundInDirection offers budget d finding) finding
           (λ d reads next. direction_right offers budget d finding
-            (record { tableau = kept end; reached = at.reached; best = at.best; one = level_kept end one; is = direction_there offers stakes (fractional_stakes classes offers numbers (kept end)) (Reads d) alike reads }) next)
+          (record { tableau = kept end; reached = at.reached; best = at.best; one = level_kept end one; is = direction_there offers stakes (fractional_stakes classes offers numbers (kept end)) (Reads d) alike reads }) next)
           more
-        | inr (below, more) ↦ after_reading offers (MeasureReads classes end) First pivots (λ m. finding ≡ Coherent m) finding
+      | inr (below, more) ↦ after_reading offers (MeasureReads classes end) First pivots (λ m. finding ≡ Coherent m) finding
           (λ m reads is. subst (IsRight offers) (sym is)
-            (subst (IsRightCoherent offers) (sym (kept_measure classes end m reads.1)) (coherent offers (kept end) at.reached at.best (below_kept end below) (kept_small classes end reads.0))))
+          (subst (IsRightCoherent offers) (sym (kept_measure classes end m reads.1)) (coherent offers (kept end) at.reached at.best (below_kept end below) (kept_small classes end reads.0))))
           more
-      ]) found
+    ]) found

@@ -1,13 +1,12 @@
 -- A sum over all offers of a sheet, each by the place of its column, is a sum over the columns.
-use Rattle.std.proofs.Common.{◌≡◌, ◌≢◌, ℕ, zero, suc, ◌+◌, ◌*◌, ◌<◌, ◌≤◌, ◌==◌, Bool, true, false, cond, not, inl, inr, nat_lt, List, [], ◌∷◌, length, map, filter, refl, sym, ap, ap₂, ◌∙◌, subst, arith}
+use Rattle.std.proofs.Common.{◌≡◌, ◌≢◌, ℕ, suc, ◌+◌, ◌<◌, ◌≤◌, ◌==◌, Bool, true, false, cond, not, inl, inr, nat_lt, List, [], ◌∷◌, length, map, filter, refl, sym, ap, ap₂, ◌∙◌, arith}
 use Rattle.std.specs.Prelude.{Option, Some, None, slice_index_or}
-use Rattle.std.specs.List.{enumerate_from, range_with_len, position, position_or_len}
+use Rattle.std.specs.List.{enumerate_from, position, position_or_len}
 use Rattle.std.proofs.lemmas.Bool.Decides.{nat_tests}
 use Rattle.std.proofs.lemmas.Bool.{cases_lt}
-use lib.IntN.{ℤ, pos, ◌+ℤ◌, ◌*ℤ◌}
-use borrow.Author.Differences.{same_out, same_in}
+use lib.IntN.{ℤ, pos, ◌+ℤ◌}
 use Rattle.pivot_definitions.specs.Duality.{sum_below}
-use Rattle.pivot_definitions.proofs.Ring.{linear, by_eq}
+use Rattle.pivot_definitions.proofs.Ring.{linear}
 use Rattle.scan_types.specs.declared.offer.Offer.{Offer}
 use Rattle.judging_laws.proofs.Weights.{sum_front}
 use Rattle.judging_laws.proofs.ClassFacts.{Each, each_filter, each_weaker}
@@ -39,13 +38,13 @@ place_here n numbers =
 placed_later : (rest count : ℕ) → placed (1 + rest) (suc count) ≡ later (placed rest count)
 placed_later rest count = elim (cases_lt rest count) [
   | inl less ↦
-    (let a : nat_lt (1 + rest) (suc count) ≡ true = grind (arith, nat_tests) in
-    let b : nat_lt rest count ≡ true = grind (arith, nat_tests) in
-    ap (λ t. cond t (Some (1 + rest)) None) a ∙ ap Some (let e : 1 + rest ≡ suc rest = omega arith in e) ∙ sym (ap (λ t. later (cond t (Some rest) None)) b))
+      (let a : nat_lt (1 + rest) (suc count) ≡ true = grind (arith, nat_tests) in
+      let b : nat_lt rest count ≡ true = grind (arith, nat_tests) in
+      ap (λ t. cond t (Some (1 + rest)) None) a ∙ ap Some (let e : 1 + rest ≡ suc rest = omega arith in e) ∙ sym (ap (λ t. later (cond t (Some rest) None)) b))
   | inr more ↦
-    (let a : nat_lt (1 + rest) (suc count) ≡ false = grind (arith, nat_tests) in
-    let b : nat_lt rest count ≡ false = grind (arith, nat_tests) in
-    ap (λ t. cond t (Some (1 + rest)) None) a ∙ sym (ap (λ t. later (cond t (Some rest) None)) b))
+      (let a : nat_lt (1 + rest) (suc count) ≡ false = grind (arith, nat_tests) in
+      let b : nat_lt rest count ≡ false = grind (arith, nat_tests) in
+      ap (λ t. cond t (Some (1 + rest)) None) a ∙ sym (ap (λ t. later (cond t (Some rest) None)) b))
 ]
 
 pub place_later : (n m : ℕ) (numbers : List ℕ) → m ≢ n → place n (m ∷ numbers) ≡ later (place n numbers)
@@ -96,12 +95,12 @@ sum_by_place p term nothing n (offer ∷ offers) o =
     let P : Bool → Type 0 = λ b. sum_pairs (λ pair. term (place pair.0 (numbers_of (cond b ((n, offer) ∷ kept) kept))) pair.1) ((n, offer) ∷ rest) ≡ sum_below (length (cond b ((n, offer) ∷ kept) kept)) (λ k. term (Some k) (slice_index_or (cond b ((n, offer) ∷ kept) kept) k o).1) in
     elim (p (n, offer)) as P [
       | true ↦
-        ap₂ (λ a b. a +ℤ b) (ap (λ q. term q offer) (place_here n (numbers_of kept)))
+          ap₂ (λ a b. a +ℤ b) (ap (λ q. term q offer) (place_here n (numbers_of kept)))
           (sum_pairs_same (λ pair. term (place pair.0 (n ∷ numbers_of kept)) pair.1) (λ pair. term (later (place pair.0 (numbers_of kept))) pair.1) rest
-              (each_weaker (λ (pair : ℕ × Offer). place pair.0 (n ∷ numbers_of kept) ≡ later (place pair.0 (numbers_of kept))) (λ (pair : ℕ × Offer). term (place pair.0 (n ∷ numbers_of kept)) pair.1 ≡ term (later (place pair.0 (numbers_of kept))) pair.1) (λ pair e. ap (λ q. term q pair.1) e) rest (ahead n offers kept))
-            ∙ sum_by_place p (λ q. term (later q)) nothing (n + 1) offers o)
-        ∙ sym (sum_front (length kept) (λ k. term (Some k) (slice_index_or ((n, offer) ∷ kept) k o).1))
+          (each_weaker (λ (pair : ℕ × Offer). place pair.0 (n ∷ numbers_of kept) ≡ later (place pair.0 (numbers_of kept))) (λ (pair : ℕ × Offer). term (place pair.0 (n ∷ numbers_of kept)) pair.1 ≡ term (later (place pair.0 (numbers_of kept))) pair.1) (λ pair e. ap (λ q. term q pair.1) e) rest (ahead n offers kept))
+          ∙ sum_by_place p (λ q. term (later q)) nothing (n + 1) offers o)
+          ∙ sym (sum_front (length kept) (λ k. term (Some k) (slice_index_or ((n, offer) ∷ kept) k o).1))
       | false ↦
-        ap₂ (λ a b. a +ℤ b) (ap (λ q. term q offer) (place_none n (numbers_of kept) (above_numbers n kept (each_filter (λ (pair : ℕ × Offer). n + 1 ≤ pair.0) p rest (from_on (n + 1) offers)))) ∙ nothing offer) (sum_by_place p term nothing (n + 1) offers o)
-        ∙ zero_and (sum_below (length kept) (λ k. term (Some k) (slice_index_or kept k o).1))
+          ap₂ (λ a b. a +ℤ b) (ap (λ q. term q offer) (place_none n (numbers_of kept) (above_numbers n kept (each_filter (λ (pair : ℕ × Offer). n + 1 ≤ pair.0) p rest (from_on (n + 1) offers)))) ∙ nothing offer) (sum_by_place p term nothing (n + 1) offers o)
+          ∙ zero_and (sum_below (length kept) (λ k. term (Some k) (slice_index_or kept k o).1))
     ]

@@ -1,19 +1,19 @@
 -- Sums over a measure are sums over the classes by the multipliers of their rows.
-use Rattle.std.proofs.Common.{◌≡◌, ℕ, zero, suc, ◌+◌, ◌*◌, ◌<◌, ◌==◌, true, false, cond, not, List, [], ◌∷◌, length, map, filter, refl, sym, ap, ap₂, ◌∙◌, subst, arith}
-use Rattle.std.specs.Prelude.{slice_index, slice_index_or, zip, unsigned_abs}
-use Rattle.std.specs.List.{All, range_with_len}
+use Rattle.std.proofs.Common.{◌≡◌, ℕ, zero, suc, ◌*◌, ◌<◌, ◌==◌, true, false, cond, not, List, [], ◌∷◌, length, map, refl, sym, ap, ◌∙◌, arith}
+use Rattle.std.specs.Prelude.{slice_index, slice_index_or, unsigned_abs}
+use Rattle.std.specs.List.{range_with_len}
 use Rattle.std.proofs.lemmas.List.{length-map, get_or-map}
 use Rattle.std.proofs.lemmas.List.FromFn.{length-map-range_with_len, get_or-map-range_with_len}
 use Rattle.std.proofs.lemmas.Int.{unsigned_abs-mul, ints}
 use Rattle.std.proofs.lemmas.Bool.Decides.{nat_tests}
 use lib.IntN.{ℤ, pos, negsuc, ◌+ℤ◌, ◌*ℤ◌, pos-*ℤ-pos}
 use lib.Signed.{◌≤ℤ◌}
-use Rattle.row_definitions.specs.Rows.{entry, row_divisor, primitive_row, scaled, divided}
+use Rattle.row_definitions.specs.Rows.{entry, row_divisor, primitive_row, divided}
 use Rattle.row_definitions.proofs.Primitives.{scaled-primitive_row, entry-scaled}
 use Rattle.pivot_definitions.specs.Tableaus.{SimplexTableau, multiplier_of}
 use Rattle.pivot_definitions.specs.Duality.{sum_below}
 use Rattle.pivot_definitions.proofs.Sums.{sum_same, sum_scaled}
-use Rattle.pivot_definitions.proofs.Ring.{dif_is, difs, dif_same, linear, zero_times}
+use Rattle.pivot_definitions.proofs.Ring.{dif_is, difs, dif_same}
 use Rattle.scan_types.specs.declared.outcome.Outcome.{Outcome}
 use Rattle.finding_definitions.specs.Measure.{weighted_sum}
 use Rattle.judging_definitions.specs.Readings.{class_weights, weighted_classes}

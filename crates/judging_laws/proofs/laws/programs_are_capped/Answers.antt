@@ -1,4 +1,4 @@
-use Rattle.judging_laws.proofs.program_law.Goals as goal
+use Rattle.judging_laws.proofs.laws.programs_are_capped.Goals as goal
 use Rattle.judging_laws.proofs.ProgramRows.{homogeneous_is_capped, limited_is_capped}
 
 pub returns : goal.returns
