@@ -1,0 +1,16 @@
+pub mod FlatRows
+pub mod ProgramRows
+pub mod Weights
+pub mod Levels
+pub mod Dominance
+pub mod Means
+pub mod ClassFacts
+pub mod Measures
+pub mod Coherence
+pub mod KeptReadings
+pub mod Spread
+pub mod Gains
+pub mod Directions
+pub mod Limits
+pub mod Parts
+pub mod RightFindings
