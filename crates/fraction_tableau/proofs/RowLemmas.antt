@@ -8,7 +8,7 @@ use Rattle.row_definitions.specs.Rows.{entry}
 use Rattle.row_definitions.specs.Combination.{FitsEntry}
 use lib.Signed.{◌<ℤ◌}
 use Rattle.row_definitions.specs.Combination.{combined}
-use Rattle.pivot_definitions.specs.Tableaus.{SimplexTableau, IsKeptTableau, IsKeptPivot, PivotFits, entry_at, column_count, others_combined}
+use Rattle.pivot_definitions.specs.Tableaus.{SimplexTableau, IsKeptTableau, IsKeptOrEmpty, IsKeptPivot, PivotFits, entry_at, column_count, others_combined}
 use Rattle.pivot_definitions.specs.Laws.{kept_pivot}
 use Rattle.pivot_definitions.proofs.Pivots.{length-others}
 use Rattle.pivot_definitions.proofs.KeptPivots.{kept_pivot_kept, is_kept_pivot}
@@ -68,10 +68,17 @@ after_pivot t p q len lent new lent_is len_is new_is within =
     let count : length new ≡ len = ap length result ∙ length-others (λ target. combined target (get_or t.rows p []) q) t.rows p within ∙ sym len_is in
     ap (λ xs. record { columns = t.columns; rows = xs; basis = set t.basis p q }) (take_at new (drop (length new) t.rows) len count ∙ result)
 
-pub kept_after : (t now : SimplexTableau) (p q : ℕ) → t ≡ now → IsKeptTableau t → p < length now.basis → q < column_count now → PivotFits now p q → IsKeptTableau (kept_pivot t p q)
-kept_after t now p q same is row column fits =
-    let there = subst (λ s. (p < length s.basis) × (q < column_count s) × PivotFits s p q) (sym same) (row, column, fits) in
-    kept_pivot_kept t p q is there.0 there.1 there.2
+-- a tableau with a column is in kept form, and one in kept form has a column
+pub kept_here : (t now : SimplexTableau) → t ≡ now → IsKeptOrEmpty t → 0 < column_count now → IsKeptTableau t
+kept_here t now same is some = is.kept (subst (λ s. 0 < column_count s) (sym same) some)
+
+pub kept_or_empty : (t : SimplexTableau) → IsKeptTableau t → IsKeptOrEmpty t
+kept_or_empty t is = record { kept = λ some. is; empty = λ none. let some = is.some_column in absurd (omega arith) }
+
+pub kept_after : (t now : SimplexTableau) (p q : ℕ) → t ≡ now → IsKeptTableau t → p < length now.basis → q < column_count now → pos 0 <ℤ entry_at now p q → PivotFits now p q → IsKeptTableau (kept_pivot t p q)
+kept_after t now p q same is row column positive fits =
+    let there = subst (λ s. (p < length s.basis) × (q < column_count s) × (pos 0 <ℤ entry_at s p q) × PivotFits s p q) (sym same) (row, column, positive, fits) in
+    kept_pivot_kept t p q is there.0 there.1 there.2 there.3
 
 pub pivot_after : (t now : SimplexTableau) (p q : ℕ) → t ≡ now → IsKeptTableau t → p < length now.basis → pos 0 <ℤ entry_at now p q → IsKeptPivot now p q (kept_pivot t p q)
 pivot_after t now p q same is row positive plain plain_is =

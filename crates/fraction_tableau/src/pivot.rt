@@ -1,5 +1,5 @@
 ghost use Rattle.std.specs.Prelude.{◌≡◌, ◌≢◌, ℕ, ◌<◌, [], length, map, slice_index_or, pos, ◌<ℤ◌, OnOk, OnErr, IfErr, IfSome, IfNone};
-ghost use Rattle.std.specs.List.{All};
+ghost use Rattle.std.specs.List.{All, Contains};
 ghost use Rattle.row_definitions.specs.Combination.{PassesNowhere, combined};
 ghost use Rattle.pivot_definitions.specs.Tableaus.{column_count, entry_at, others_combined, HasSameShape, IsKeptPivot, PivotFits, PivotPassesFirst};
 ghost use Rattle.fraction_tableau.specs.Combinable.{Combinable};
@@ -18,12 +18,13 @@ pub struct Passed2 {
 
 impl Tableau {
     /// Makes a column basic in a row of the program: every other row becomes 0 in the column. The row's entry there is
-    /// above 0. Where a number would pass 128 bits, the first place is answered, rows rising with the objective row last,
+    /// above 0, and the column is not basic yet. Where a number would pass 128 bits, the first place is answered, rows rising with the objective row last,
     /// and the tableau stays as it was. Takes no memory.
     pub fn pivot(&mut self, row: u32, column: u32) -> Result<(), Passed2>
         requires row { row < length self.old.basis }
         requires column { column < column_count self.old }
         requires positive { pos 0 <ℤ entry_at self.old row column }
+        requires not_basic { ¬ Contains self.old.basis column }
 
         ensures ok { OnOk result (IsKeptPivot self.old row column self.new) }
         ensures fits { OnOk result (PivotFits self.old row column) }
