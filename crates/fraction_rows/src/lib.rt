@@ -13,6 +13,7 @@ mod combination;
 mod division;
 mod divisor;
 mod exact;
+mod writing;
 
 pub use bits::bit_length;
 pub use combination::{Passed, combine, combine_within, first_passing};
