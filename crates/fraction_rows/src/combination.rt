@@ -2,14 +2,15 @@
 ghost use Rattle.std.specs.Prelude.{◌≡◌, ◌<◌, ◌^◌, length, ◌-ℤ◌, ◌*ℤ◌, SomeIff, IfSome, IfNone, OnOk, IfErr, OnErr};
 ghost use Rattle.std.specs.Int.{◌∣◌};
 ghost use Rattle.std.specs.List.{All};
+ghost use Rattle.std.specs.Option.{ForSome};
 ghost use Rattle.row_definitions.specs.Rows.{row_divisor, IsPositiveMultiple};
 ghost use Rattle.row_definitions.specs.Combination.{FitsEntry, ProductsFit, PassesNowhere, PassesFirst, plain_combination, reduced_combination, combined, target_factor, pivot_factor};
-ghost use Rattle.fraction_rows.specs.Combinable.{Combinable};
+ghost use Rattle.fraction_rows.specs.Combinable.{Combinable, IsPrimitivePair, IsZeroIn};
 ghost use Rattle.fraction_rows.specs.BitLengths.{HasBits};
 
 use crate::bits::{WIDE_BITS, bit_length, products_are_short};
 use crate::division::divide_by_content;
-use crate::divisor::{divisor_of_pair, quotient};
+use crate::divisor::{common_divisor, divisor_of_pair, quotient};
 use crate::writing::write_combination;
 
 /// A combination passed 128 bits: in this column, the first such, one of the two products or their difference is above
@@ -119,6 +120,32 @@ pub fn combine_within(
     let factors = factors_of(target, pivot, at);
     let bits = write_combination(target, target_bits, pivot, pivot_bits, factors);
     divide_by_content(target, bits, bound)
+}
+
+/// A bound for `combine_within` where both rows are primitive and the target's entry in column `at` is not 0: of the target's
+/// entry in column `own`, where the pivot is 0, and of the pivot's entry in column `leaving`, where the target is 0, the
+/// greatest common divisor. Without an `own` column it is the size of the second alone. In a tableau in canonical form these
+/// are the column that is basic in the target, and the one that leaves. Costs a run of Euclid's algorithm.
+pub fn content_bound(
+    target: &[i128],
+    pivot: &[i128],
+    at: usize,
+    own: Option<usize>,
+    leaving: usize,
+) -> u128
+    requires combinable { Combinable target.now pivot.now at }
+    requires primitive { IsPrimitivePair target.now pivot.now at }
+    requires own { ForSome own (λ column. IsZeroIn pivot.now column) }
+    requires leaving { IsZeroIn target.now leaving }
+
+    ensures divides { row_divisor (reduced_combination target.now pivot.now at) ∣ result }
+    ensures fits { result < 2 ^ 127 }
+{
+    let other = pivot[leaving].unsigned_abs();
+    match own {
+        Some(column) => common_divisor(target[column].unsigned_abs(), other),
+        None => other,
+    }
 }
 
 // What the two rows are multiplied by.
