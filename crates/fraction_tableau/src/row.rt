@@ -18,7 +18,7 @@ pub(crate) struct Row {
 
 impl Model for Row {
     ghost use Rattle.std.specs.Prelude.{List, ℤ};
-        ghost use Rattle.std.specs.List.{All};
+    ghost use Rattle.std.specs.List.{All};
     ghost use Rattle.fraction_rows.specs.BitLengths.{HasBits};
 
     ghost Value = { List ℤ };
@@ -94,13 +94,7 @@ impl Row {
 
     // Makes the row 0 in the column by the combination with the pivot row. `own` is the column that is basic in the row, and
     // `leaving` the one that is basic in the pivot row.
-    pub(crate) fn combine(
-        &mut self,
-        own: Option<usize>,
-        pivot: &Row,
-        leaving: usize,
-        column: usize,
-    )
+    pub(crate) fn combine(&mut self, own: Option<usize>, pivot: &Row, leaving: usize, column: usize)
         requires combinable { Combinable self.old pivot.now column }
         requires apart { AreApart self.old pivot.now own leaving }
         requires passes_nowhere { PassesNowhere self.old pivot.now column }

@@ -1,4 +1,4 @@
-ghost use Rattle.std.specs.Prelude.{◌≡◌, ◌+◌, ◌<◌, ◌≤◌, ◌↔◌, length, ◌==◌, IfOk, IfSome, IsTrue, position};
+ghost use Rattle.std.specs.Prelude.{◌≡◌, ◌+◌, ◌<◌, ◌≤◌, ◌↔◌, length, ◌==◌, IfOk, OnOk, OnErr, IfSome, IsTrue, position};
 ghost use Rattle.std.specs.List.{Contains};
 ghost use Rattle.row_definitions.specs.Combination.{FitsEntry};
 ghost use Rattle.pivot_definitions.specs.Tableaus.{IsKeptTableau, column_count, entry_at, right_side, objective, basic_column, multiplier_of, IsValueOf, built, empty_tableau};
@@ -59,6 +59,17 @@ impl Tableau {
             rows,
             basis,
         })
+    }
+
+    /// Makes it the tableau of a program as built, whatever it was before. It is empty where no memory is left. What it held is
+    /// given back first, so never more memory is taken than one tableau needs.
+    pub fn rebuild(&mut self, alloc: Global, program: &Program) -> Result<(), WantOfMemory>
+        ensures ok { OnOk result (self.new ≡ built program.now) }
+        ensures err { OnErr result (self.new ≡ empty_tableau) }
+    {
+        *self = Tableau::empty(alloc);
+        *self = Tableau::build(alloc, program)?;
+        Ok(())
     }
 
     /// How many columns the program has: from 1 to 2,048, and 0 where the tableau is empty.

@@ -104,11 +104,11 @@ module _ (target pivot : List ℤ) (at : ℕ) (lengths : length target ≡ lengt
       let e = row_divisor (pos content ∷ a ∷ []) in
       let is = (row_divisor_is (pos content ∷ a ∷ [])).0 in
       let each : (k : ℕ) → e ∣ unsigned_abs (entry pivot k) = λ k.
-          (let t = entry target k in
-          let p = entry pivot k in
-          let first = factor_divides e a t is.1.0 in
-          let second = other_divides e (a *ℤ t) (b *ℤ p) first (dvd_trans e is.0 (content_divides k)) in
-          without_common a b e (unsigned_abs p) apart (swapped_product e a p (factor_divides e a p is.1.0)) (swapped_product e b p second)) in
+      (let t = entry target k in
+      let p = entry pivot k in
+      let first = factor_divides e a t is.1.0 in
+      let second = other_divides e (a *ℤ t) (b *ℤ p) first (dvd_trans e is.0 (content_divides k)) in
+      without_common a b e (unsigned_abs p) apart (swapped_product e a p (factor_divides e a p is.1.0)) (swapped_product e b p second)) in
       let whole = (row_divisor_is pivot).1 e (Divides-from_entries e pivot each) in
       eq-one_of_dvd-one (subst (λ n. e ∣ n) (row_divisor-primitive pivot primitive (at, size-pos (entry pivot at) positive)) whole)
 
@@ -118,11 +118,11 @@ module _ (target pivot : List ℤ) (at : ℕ) (lengths : length target ≡ lengt
       let e = row_divisor (pos content ∷ b ∷ []) in
       let is = (row_divisor_is (pos content ∷ b ∷ [])).0 in
       let each : (k : ℕ) → e ∣ unsigned_abs (entry target k) = λ k.
-          (let t = entry target k in
-          let p = entry pivot k in
-          let second = factor_divides e b p is.1.0 in
-          let first = first_divides e (a *ℤ t) (b *ℤ p) second (dvd_trans e is.0 (content_divides k)) in
-          without_common a b e (unsigned_abs t) apart (swapped_product e a t first) (swapped_product e b t (factor_divides e b t is.1.0))) in
+      (let t = entry target k in
+      let p = entry pivot k in
+      let second = factor_divides e b p is.1.0 in
+      let first = first_divides e (a *ℤ t) (b *ℤ p) second (dvd_trans e is.0 (content_divides k)) in
+      without_common a b e (unsigned_abs t) apart (swapped_product e a t first) (swapped_product e b t (factor_divides e b t is.1.0))) in
       let whole = (row_divisor_is target).1 e (Divides-from_entries e target each) in
       eq-one_of_dvd-one (subst (λ n. e ∣ n) (row_divisor-primitive target primitive some) whole)
 
