@@ -1,5 +1,6 @@
 ghost use Rattle.std.specs.Prelude.{◌≡◌, ◌++◌, OnOk};
-ghost use Rattle.report_definitions.specs.Report.{stake_fields, measure_fields, finding_fields};
+ghost use Rattle.finding_definitions.specs.Text.{stake_fields, measure_fields};
+ghost use Rattle.report_definitions.specs.Report.{finding_fields};
 ghost use Rattle.arb_report.specs.Spaced.{spaced};
 
 use crate::appends::{put, put_number_field};

@@ -1,5 +1,6 @@
 ghost use Rattle.std.specs.Prelude.{◌≡◌, ◌∷◌, ◌++◌, OnOk, decimal};
-ghost use Rattle.report_definitions.specs.Words.{last_digit, odds_text, quarters_text, handicap_text, selection_fields, rule_text, outcome_fields};
+ghost use Rattle.report_definitions.specs.Words.{last_digit, odds_text, quarters_text, handicap_text, selection_fields, rule_text};
+ghost use Rattle.finding_definitions.specs.Text.{outcome_fields};
 ghost use Rattle.arb_report.specs.Spaced.{spaced};
 
 use crate::appends::{put, put_number, put_number_field};

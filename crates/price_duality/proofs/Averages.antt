@@ -8,8 +8,8 @@ use Rattle.scan_types.specs.declared.offer.Offer.{Offer}
 use Rattle.scan_types.specs.declared.outcome.Outcome.{Outcome}
 use Rattle.scan_types.specs.declared.outcome.Outcome.TheVariants.{Full, Abandoned}
 use Rattle.settlement_definitions.specs.Gain.{gain}
-use Rattle.settlement_definitions.specs.Arbitrage.{sum_over, total_gain, need}
-use Rattle.settlement_definitions.specs.Measure.{weighted_sum, mean, final_weight, IsFinal}
+use Rattle.finding_definitions.specs.Arbitrage.{sum_over, total_gain, need}
+use Rattle.finding_definitions.specs.Measure.{weighted_sum, mean, final_weight, IsFinal}
 use Rattle.price_duality.proofs.Products.{regroup, add_le, times-sum, times_le, times_swap}
 
 -- a weight on an outcome

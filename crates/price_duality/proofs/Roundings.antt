@@ -8,7 +8,7 @@ use Rattle.scan_types.specs.declared.outcome.Outcome.{Outcome}
 use Rattle.settlement_definitions.specs.Legs.{legs_of}
 use Rattle.settlement_definitions.specs.Abandonment.{leg_at}
 use Rattle.settlement_definitions.specs.Gain.{gain, net}
-use Rattle.settlement_definitions.specs.Arbitrage.{total_net, total_gain}
+use Rattle.finding_definitions.specs.Arbitrage.{total_net, total_gain}
 use Rattle.settlement_definitions.proofs.GainLemmas.{leg_gain-range}
 use Rattle.price_duality.proofs.Products.{add_le, times-sum}
 

@@ -1,11 +1,12 @@
 -- Stakes that win a unit everywhere contradict weights under which no offer gains.
-use Rattle.std.proofs.Common.{◌≡◌, ◌≤◌, ◌<◌, ◌*◌, ◌^◌, ℕ, List, arith, subst}
+use Rattle.std.proofs.Common.{◌≡◌, ◌≤◌, ◌*◌, ℕ, List, arith, subst}
 use Rattle.std.specs.Prelude.{pos, ◌*ℤ◌, ◌≤ℤ◌}
 use Rattle.std.proofs.lemmas.Int.{ints}
 use Rattle.scan_types.specs.declared.offer.Offer.{Offer}
-use Rattle.settlement_definitions.specs.Arbitrage.{sum_over, total_net, total_gain, need, IsArbitrage, ReachesUnit}
-use Rattle.settlement_definitions.specs.Measure.{weighted_sum, mean, final_weight, IsPriceMeasure}
-use Rattle.settlement_definitions.specs.Verdicts.{IsRightCoherent}
+use Rattle.scan_types.specs.declared.limits.TheConstants.{MOST_PART}
+use Rattle.finding_definitions.specs.Arbitrage.{sum_over, total_net, total_gain, need, IsArbitrage, ReachesUnit}
+use Rattle.finding_definitions.specs.Measure.{weighted_sum, mean, final_weight, IsPriceMeasure}
+use Rattle.finding_definitions.specs.Verdicts.{IsRightCoherent}
 use Rattle.price_duality.specs.Duality.{WinsUnit}
 use Rattle.price_duality.proofs.Products.{times_le}
 use Rattle.price_duality.proofs.Averages.{Entry, weighted_sum-times, weighted_sum_le, sums_exchange, no_stakes_gain, final_weight_pos}
@@ -15,7 +16,7 @@ use Rattle.price_duality.proofs.Roundings.{total_net_below}
 final_weight_some : (m : List Entry) → IsPriceMeasure m → pos 1 ≤ℤ final_weight m
 final_weight_some m price =
     let (k, x, l, e, f) = price.final in
-    let W : Entry → Type 0 = λ y. (1 ≤ y.1) × (y.1 < 2 ^ 60) in
+    let W : Entry → Type 0 = λ y. (1 ≤ y.1) × (y.1 ≤ MOST_PART) in
     let weight : W x = subst W e (price.form.weights k x l) in
     final_weight_pos m k x l e f weight.0
 

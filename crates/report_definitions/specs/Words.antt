@@ -5,8 +5,6 @@ use Rattle.scan_types.specs.declared.selection.Selection.{Selection}
 use Rattle.scan_types.specs.declared.selection.Selection.TheVariants.{Home, Draw, Away, HandicapHome, HandicapAway, Over, Under}
 use Rattle.scan_types.specs.declared.rule.VoidRule.{VoidRule}
 use Rattle.scan_types.specs.declared.rule.VoidRule.TheVariants.{Void, Score, Decided}
-use Rattle.scan_types.specs.declared.outcome.Outcome.{Outcome}
-use Rattle.scan_types.specs.declared.outcome.Outcome.TheVariants.{Full, Abandoned}
 
 abbrev pub line_of : List (List ℕ) → List ℕ
 line_of fields = join_with_byte 32 fields ++ 10 ∷ []
@@ -41,7 +39,3 @@ abbrev pub rule_text : VoidRule → List ℕ
 rule_text Void = codes "void"
 rule_text Score = codes "score"
 rule_text Decided = codes "decided"
-
-abbrev pub outcome_fields : Outcome → List (List ℕ)
-outcome_fields (Full home away) = codes "full" ∷ decimal home ∷ decimal away ∷ []
-outcome_fields (Abandoned home away) = codes "abandoned" ∷ decimal home ∷ decimal away ∷ []

@@ -5,8 +5,8 @@ use Rattle.scan_types.specs.declared.selection.Selection.{Selection}
 use Rattle.scan_types.specs.declared.selection.Selection.TheVariants.{Home, Draw, Away}
 use Rattle.scan_types.specs.declared.outcome.Outcome.{Outcome}
 use Rattle.scan_types.specs.declared.outcome.Outcome.TheVariants.{Full}
-use Rattle.settlement_definitions.specs.Arbitrage.{IsArbitrage}
-use Rattle.settlement_definitions.specs.Verdicts.{IsRightCoherent}
+use Rattle.finding_definitions.specs.Arbitrage.{IsArbitrage}
+use Rattle.finding_definitions.specs.Verdicts.{IsRightCoherent}
 use Rattle.result_verdict.specs.declared.best.Best.{Best}
 use Rattle.result_verdict.specs.declared.best.Trio.{Trio}
 use Rattle.result_verdict.specs.declared.floors.Floors.{Floors}

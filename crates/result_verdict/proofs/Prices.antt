@@ -12,10 +12,12 @@ use Rattle.scan_types.specs.declared.selection.Selection.{Selection}
 use Rattle.scan_types.specs.declared.selection.Selection.TheVariants.{Home, Draw, Away, HandicapHome, HandicapAway, Over, Under}
 use Rattle.scan_types.specs.declared.outcome.Outcome.{Outcome}
 use Rattle.scan_types.specs.declared.outcome.Outcome.TheVariants.{Full}
-use Rattle.settlement_definitions.specs.Laws.{IsOnResult}
+use Rattle.scan_types.specs.Selections.{IsOnResult}
+use Rattle.scan_types.specs.declared.limits.TheConstants.{MOST_PART, MOST_SCORE}
 use Rattle.settlement_definitions.specs.Gain.{gain}
-use Rattle.settlement_definitions.specs.Measure.{mean, HasScoresInRange, IsPriceMeasure}
-use Rattle.settlement_definitions.specs.Verdicts.{IsRightCoherent}
+use Rattle.settlement_definitions.specs.Scores.{HasScoresInRange}
+use Rattle.finding_definitions.specs.Measure.{mean, IsPriceMeasure}
+use Rattle.finding_definitions.specs.Verdicts.{IsRightCoherent}
 use Rattle.result_verdict.specs.declared.best.Best.{Best}
 use Rattle.result_verdict.specs.declared.best.Trio.{Trio}
 use Rattle.result_verdict.specs.Best.{AreBest, IsResultSheet, IsUnbacked, odds_of}
@@ -28,11 +30,11 @@ abbrev Entry : Type 0
 Entry = Outcome × ℕ
 
 -- a weight on one final score is a price measure
-pub sure_form : (h a : ℕ) → h ≤ 2 ^ 40 → a ≤ 2 ^ 40 → IsPriceMeasure ((Full h a, 1) ∷ [])
+pub sure_form : (h a : ℕ) → h ≤ MOST_SCORE → a ≤ MOST_SCORE → IsPriceMeasure ((Full h a, 1) ∷ [])
 sure_form h a p q =
     let R : Entry → Entry → Type 0 = λ e f. e.0 ≢ f.0 in
     let S : Entry → Type 0 = λ e. HasScoresInRange e.0 in
-    let W : Entry → Type 0 = λ e. (1 ≤ e.1) × (e.1 < 2 ^ 60) in
+    let W : Entry → Type 0 = λ e. (1 ≤ e.1) × (e.1 ≤ MOST_PART) in
     let x : Entry = (Full h a, 1) in
     record {
       form = record {
@@ -46,11 +48,11 @@ sure_form h a p q =
     }
 
 -- weights on the three results are a price measure
-pub results_form : (draw away home : ℕ) → 1 ≤ draw → draw < 2 ^ 60 → 1 ≤ away → away < 2 ^ 60 → 1 ≤ home → home < 2 ^ 60 → IsPriceMeasure (on_results draw away home)
+pub results_form : (draw away home : ℕ) → 1 ≤ draw → draw ≤ MOST_PART → 1 ≤ away → away ≤ MOST_PART → 1 ≤ home → home ≤ MOST_PART → IsPriceMeasure (on_results draw away home)
 results_form draw away home d0 d1 a0 a1 h0 h1 =
     let R : Entry → Entry → Type 0 = λ e f. e.0 ≢ f.0 in
     let S : Entry → Type 0 = λ e. HasScoresInRange e.0 in
-    let W : Entry → Type 0 = λ e. (1 ≤ e.1) × (e.1 < 2 ^ 60) in
+    let W : Entry → Type 0 = λ e. (1 ≤ e.1) × (e.1 ≤ MOST_PART) in
     let x : Entry = (Full 0 0, draw) in
     let y : Entry = (Full 0 1, away) in
     let z : Entry = (Full 1 0, home) in
@@ -94,7 +96,7 @@ lost_home offer (Over _) e on other = absurd on
 lost_home offer (Under _) e on other = absurd on
 
 -- all weight on a result at which every offer loses
-sure_right : (offers : List Offer) (h a : ℕ) → h ≤ 2 ^ 40 → a ≤ 2 ^ 40 → All (λ (offer : Offer). gain offer (Full h a) ≡ twice offer.odds.thousandths false) offers → IsRightCoherent offers ((Full h a, 1) ∷ [])
+sure_right : (offers : List Offer) (h a : ℕ) → h ≤ MOST_SCORE → a ≤ MOST_SCORE → All (λ (offer : Offer). gain offer (Full h a) ≡ twice offer.odds.thousandths false) offers → IsRightCoherent offers ((Full h a, 1) ∷ [])
 sure_right offers h a p q lost = record {
   price = sure_form h a p q;
   no_gain = λ k d l. let e = lost k d l in omega (arith, ints, e);
@@ -171,7 +173,7 @@ quotient_pos zero g w e h = absurd (omega arith)
 quotient_pos (suc q) g w e h = omega arith
 
 -- a weight in lowest terms is from 1 to 10^12
-lowest_fits : (g w : ℕ) (b d : Best) → g ∣ w → w ≡ odds_of b * odds_of d → (1 ≤ w / g) × (w / g < 2 ^ 60)
+lowest_fits : (g w : ℕ) (b d : Best) → g ∣ w → w ≡ odds_of b * odds_of d → (1 ≤ w / g) × (w / g ≤ MOST_PART)
 lowest_fits g w b d p e =
     let positive : 0 < w = omega (arith, product_pos (odds_of b) (odds_of d) b.offer.odds.at_least d.offer.odds.at_least) in
     let most : odds_of b * odds_of d ≤ 1000000 * 1000000 = mul-le (odds_of b) (odds_of d) 1000000 1000000 b.offer.odds.at_most d.offer.odds.at_most in

@@ -4,7 +4,7 @@ use Rattle.std.specs.Prelude.{ℤ, pos, ◌+ℤ◌, slice_get}
 use Rattle.std.specs.List.{AllZip}
 use Rattle.std.proofs.lemmas.Int.{ints}
 use Rattle.scan_types.specs.declared.offer.Offer.{Offer}
-use Rattle.settlement_definitions.specs.Arbitrage.{sum_over}
+use Rattle.finding_definitions.specs.Arbitrage.{sum_over}
 
 pub sum_over-set : (f : Offer → ℕ → ℤ) (offers : List Offer) (numbers : List ℕ) (i y : ℕ) (offer : Offer) → length offers ≡ length numbers → slice_get offers i ≡ Some offer → sum_over f offers (set numbers i y) +ℤ f offer (get_or numbers i 0) ≡ sum_over f offers numbers +ℤ f offer y
 sum_over-set f [] numbers i y offer l e = cc

@@ -14,7 +14,7 @@ use Rattle.scan_types.specs.declared.selection.Selection.TheVariants.{Home, Draw
 use Rattle.scan_types.specs.declared.outcome.Outcome.{Outcome}
 use Rattle.scan_types.specs.declared.outcome.Outcome.TheVariants.{Full, Abandoned}
 use Rattle.settlement_definitions.specs.Gain.{net, paid}
-use Rattle.settlement_definitions.specs.Arbitrage.{sum_over, total_net, need, IsArbitrage}
+use Rattle.finding_definitions.specs.Arbitrage.{sum_over, total_net, need, IsArbitrage}
 use Rattle.result_verdict.specs.declared.best.Best.{Best}
 use Rattle.result_verdict.specs.declared.best.Trio.{Trio}
 use Rattle.result_verdict.specs.declared.floors.Floors.{Floors}

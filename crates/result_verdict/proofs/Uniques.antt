@@ -8,7 +8,7 @@ use Rattle.scan_types.specs.declared.offer.Offer.{Offer}
 use Rattle.scan_types.specs.declared.selection.Selection.{Selection}
 use Rattle.scan_types.specs.declared.selection.Selection.TheVariants.{Home, Draw, Away}
 use Rattle.scan_types.specs.declared.outcome.Outcome.{Outcome}
-use Rattle.settlement_definitions.specs.Arbitrage.{IsArbitrage}
+use Rattle.finding_definitions.specs.Arbitrage.{IsArbitrage}
 use Rattle.result_verdict.specs.declared.best.Best.{Best}
 use Rattle.result_verdict.specs.declared.best.Trio.{Trio}
 use Rattle.result_verdict.specs.declared.First.{First}

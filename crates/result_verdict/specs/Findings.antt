@@ -3,8 +3,8 @@ use Rattle.scan_types.specs.declared.offer.Offer.{Offer}
 use Rattle.scan_types.specs.declared.selection.Selection.TheVariants.{Home, Draw, Away}
 use Rattle.scan_types.specs.declared.outcome.Outcome.{Outcome}
 use Rattle.scan_types.specs.declared.outcome.Outcome.TheVariants.{Full}
-use Rattle.settlement_definitions.specs.Arbitrage.{IsArbitrage}
-use Rattle.settlement_definitions.specs.Verdicts.{IsRightArb, IsRightCoherent}
+use Rattle.finding_definitions.specs.Arbitrage.{IsArbitrage}
+use Rattle.finding_definitions.specs.Verdicts.{IsRightArb, IsRightCoherent}
 use Rattle.result_verdict.specs.declared.best.Trio.{Trio}
 use Rattle.result_verdict.specs.declared.First.{First}
 use Rattle.result_verdict.specs.declared.First.TheVariants.{Arb, Coherent, Unsettled1}

@@ -4,7 +4,7 @@ pub mod Decided
 pub mod LaterGoals
 pub mod Abandonment
 pub mod Gain
-pub mod Arbitrage
-pub mod Measure
-pub mod Verdicts
+pub mod Scores
+pub mod StandIns
+pub mod Classes
 pub mod Laws

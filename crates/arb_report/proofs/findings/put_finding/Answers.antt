@@ -1,7 +1,7 @@
 use Rattle.std.proofs.Common.{◌∙◌, append_assoc}
 use Rattle.std.specs.Prelude.{codes}
 use Rattle.std.proofs.lemmas.Result.{on_ok_weaker}
-use Rattle.report_definitions.specs.Report.{stake_fields}
+use Rattle.finding_definitions.specs.Text.{stake_fields}
 use Rattle.arb_report.specs.Spaced.{spaced}
 use Rattle.arb_report.proofs.findings.put_finding.Goals as goal
 

@@ -1,6 +1,6 @@
 use Rattle.std.proofs.Common.{ℕ, List, [], ◌∷◌, ◌++◌, ◌∙◌, ap, sym, length, append_assoc, decimal}
 use Rattle.scan_types.specs.declared.outcome.Outcome.{Outcome}
-use Rattle.report_definitions.specs.Words.{outcome_fields}
+use Rattle.finding_definitions.specs.Text.{outcome_fields}
 use Rattle.arb_report.specs.Spaced.{spaced}
 use Rattle.arb_report.proofs.Growth.{all_done, spaced-flat_map}
 use Rattle.arb_report.proofs.findings.put_measure.Goals as goal

@@ -1,6 +1,6 @@
 use Rattle.std.proofs.Common.{◌≡◌, [], ◌∷◌, ◌++◌, take, length, decimal}
 use Rattle.std.specs.List.{flat_map}
-use Rattle.report_definitions.specs.Words.{outcome_fields}
+use Rattle.finding_definitions.specs.Text.{outcome_fields}
 use Rattle.arb_report.specs.Spaced.{spaced}
 use Rattle.arb_report.proofs.findings.put_measure.Given as goal
 

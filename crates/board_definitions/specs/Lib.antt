@@ -1,0 +1,4 @@
+pub mod Entries
+pub mod Sheets
+pub mod Pins
+pub mod Legal

@@ -1,0 +1,6 @@
+use Rattle.std.proofs.Common.{◌≤◌, get_or}
+use Rattle.cert_checker.proofs.Searches.{HoldBefore}
+use Rattle.cert_checker.proofs.limits.stake_above_limit.Given as goal
+
+abbrev pub invariant-loop-i : goal.invariant-loop-i
+invariant-loop-i l = HoldBefore (λ i offer. get_or l.stakes i 0 ≤ offer.limit) l.offers l.i

@@ -1,0 +1,7 @@
+pub mod Arbitrage
+pub mod Measure
+pub mod Verdicts
+pub mod Fractions
+pub mod Findings
+pub mod Text
+pub mod Readable
