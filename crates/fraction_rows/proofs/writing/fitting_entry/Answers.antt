@@ -1,7 +1,7 @@
 use Rattle.std.proofs.Common.{◌*ℤ◌, ◌-ℤ◌, SFits, to_z-of_z, rules}
 use Rattle.std.specs.Int.{w128}
 use Rattle.std.proofs.lemmas.Int.{fits_signed_from_abs}
-use Rattle.fraction_rows.proofs.combination.fitting_entry.Goals as goal
+use Rattle.fraction_rows.proofs.writing.fitting_entry.Goals as goal
 
 pub overflow_sub-result : goal.overflow_sub-result
 overflow_sub-result c =

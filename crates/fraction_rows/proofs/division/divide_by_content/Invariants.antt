@@ -1,7 +1,7 @@
 use Rattle.std.proofs.Common.{◌≡◌, ◌<◌, ◌^◌}
 use Rattle.std.specs.Int.{◌∣◌}
 use Rattle.row_definitions.specs.Rows.{row_divisor}
-use Rattle.fraction_rows.proofs.division.primitive.Given as goal
+use Rattle.fraction_rows.proofs.division.divide_by_content.Given as goal
 
 abbrev pub invariant-loop-divisor : goal.invariant-loop-divisor
 invariant-loop-divisor l = record {
