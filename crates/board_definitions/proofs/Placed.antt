@@ -2,6 +2,7 @@
 use Rattle.std.proofs.Common.{ℕ, ◌≡◌, ◌≤◌, ◌<◌, inl, inr, ⊎_elim, Bool, true, false, cond, List, [], ◌∷◌, refl, sym, ap, ◌∙◌, Some, None, arith}
 use Rattle.std.specs.Prelude.{◌⊎◌, Option, find, reverse, option_and_then}
 use Rattle.std.specs.Option.{option_map_or, unwrap_or}
+use Rattle.std.proofs.Props.{props}
 use Rattle.std.proofs.lemmas.Bool.{cases_Bool, cases_lt}
 use Rattle.scan_types.specs.declared.limits.TheConstants.{MOST_LIMIT}
 use Rattle.scan_types.specs.declared.offer.Offer.{Offer}
@@ -90,3 +91,24 @@ standing_placed rules entries m f n offer h =
     let about : is_about m f n last.0.event ≡ true = find_passes (λ (entry : Entry). is_about m f n entry.event) (reverse entries) last.0 last.1 in
     let it = made rules last.0.event m f n offer about last.2 in
     (it.0, ap (λ (o : Option Entry). option_map_or (λ (entry : Entry). is_quote entry.event) o false) last.1 ∙ it.1)
+
+at_most_once : (a b : ℕ) → IsProp (a ≤ b)
+at_most_once a b = hlevel props
+
+-- an offer is the one with its terms
+within_back : (o : Offer) (a : (7 < o.feed) ⊎ (o.feed ≤ 7)) (b : (o.limit < 1) ⊎ (1 ≤ o.limit)) (c : (MOST_LIMIT < o.limit) ⊎ (o.limit ≤ MOST_LIMIT)) →
+    offer_within o.feed o.selection o.odds o.limit o.rule a b c ≡ Some o
+within_back o (inl a) b c = let fits : o.feed ≤ 7 = o.feed_at_most in absurd (omega (arith, fits, a))
+within_back o (inr a) (inl b) c = let some : 1 ≤ o.limit = o.limit_at_least in absurd (omega (arith, some, b))
+within_back o (inr a) (inr b) (inl c) = let few : o.limit ≤ 100000000 = o.limit_at_most in absurd (omega (arith, few, c))
+within_back o (inr a) (inr b) (inr c) =
+    let F : (p : o.feed ≤ 7) → (q : 1 ≤ o.limit) → (r : o.limit ≤ 100000000) → Offer = λ p q r. record {
+      feed = o.feed; selection = o.selection; odds = o.odds; limit = o.limit; rule = o.rule; feed_at_most = p; limit_at_least = q; limit_at_most = r;
+    } in
+    ap (λ (p : o.feed ≤ 7). Some (F p b c)) (at_most_once _ _ a o.feed_at_most)
+    ∙ ap (λ (q : 1 ≤ o.limit). Some (F o.feed_at_most q c)) (at_most_once _ _ b o.limit_at_least)
+    ∙ ap (λ (r : o.limit ≤ 100000000). Some (F o.feed_at_most o.limit_at_least r)) (at_most_once _ _ c o.limit_at_most)
+
+pub offer_with_back : (o : Offer) → offer_with o.feed o.selection o.odds o.limit o.rule ≡ Some o
+unfolding offer_with
+offer_with_back o = within_back o (cases_lt 7 o.feed) (cases_lt o.limit 1) (cases_lt MOST_LIMIT o.limit)
