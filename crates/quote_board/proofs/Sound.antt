@@ -1,0 +1,127 @@
+-- What is kept still agrees with the history after one more entry.
+use Rattle.std.proofs.Common.{ℕ, ◌≡◌, ◌+◌, ◌≤◌, ◌<◌, Bool, true, false, cond, List, [], ◌∷◌, ◌++◌, length, refl, sym, ap, ◌∙◌, Some, None, subst, ⊎_elim, arith, length-append}
+use Rattle.std.specs.Prelude.{Option, MatchOption, ◌==◌, ◌&&◌}
+use Rattle.std.specs.Option.{option_or, is_none, option_map_or}
+use Rattle.std.specs.BTreeMap.{BTreeMap, get, btree_map_len, is_at}
+use Rattle.std.specs.Ordering.{nat_cmp}
+use Rattle.std.specs.Str.{bytes_eq}
+use Rattle.std.proofs.lemmas.Bool.{cases_Bool, both_ways}
+use Rattle.std.proofs.lemmas.Bool.Decides.{Decides-eqb}
+use Rattle.indexmap.specs.IndexMap.{IndexMap}
+use Rattle.scan_types.specs.declared.rule.VoidRule.{VoidRule}
+use Rattle.scan_types.specs.declared.offer.Offer.{Offer}
+use Rattle.finding_definitions.specs.declared.finding.Finding.{Finding}
+use Rattle.board_definitions.specs.declared.event.Event.{Event}
+use Rattle.board_definitions.specs.declared.event.Event.TheVariants.{Quoted, Withdrawn, Ended, Pinned, Filed, Released}
+use Rattle.board_definitions.specs.declared.event.Entry.{Entry}
+use Rattle.board_definitions.specs.declared.pin.Pin.{Pin}
+use Rattle.board_definitions.specs.Entries.{is_about, changes, pins, closes, ends}
+use Rattle.board_definitions.specs.Sheets.{standing, offer_of as offer_made, sheet}
+use Rattle.board_definitions.specs.Pins.{IsLive, HasNoPin, IsDueSince, IsDue}
+use Rattle.board_definitions.specs.Legal.{MayFollow}
+use Rattle.board_definitions.proofs.Changes.{standing-push}
+use Rattle.board_definitions.proofs.More.{legal_more, waits_changed, waits_pinned, waits_kept, due_apart, WaitsSince}
+use Rattle.quote_board.specs.declared.book.Book.{Book}
+use Rattle.quote_board.specs.declared.held.Held.{Held}
+use Rattle.quote_board.specs.Books.{offer_of, due_of, waits_for}
+use Rattle.quote_board.specs.Kept.{IsHeld, Agrees, IsSound, open_count}
+use Rattle.quote_board.proofs.Waits.{waits_changed_at, waits_pinned_at}
+use Rattle.quote_board.proofs.Holds.{IsNoPinOf, HoldsAt, holds_stay, held_new, none_after, versions_apart, at_caller}
+use Rattle.quote_board.proofs.Feeds.{open_kept, open_less}
+
+-- the entry neither pins a match nor closes a pin
+pub record IsQuiet (e : Entry) : Type 0 where
+  pub pins_none : (m : List ℕ) → pins m e.event ≡ false
+  pub closes_none : (v : ℕ) → closes v e.event ≡ false
+  pub no_pin : (caller : ℕ) → IsNoPinOf caller e
+
+closed_now : (rules : List (Option VoidRule)) (h : List Entry) (e : Entry) (pin : Pin) (there : Option Held) → IsLive h pin → IsNoPinOf pin.caller e → ((v : ℕ) → closes v e.event ≡ (pin.version == v)) →
+    HoldsAt rules h pin.caller there → HasNoPin (h ++ e ∷ []) pin.caller
+closed_now rules h e pin None live quiet closing was = absurd (was pin refl live)
+closed_now rules h e pin (Some x) live quiet closing was =
+    none_after rules h e pin.caller x quiet (closing x.version ∙ (Decides-eqb pin.version x.version).1 (was.only pin refl live)) was
+
+module _ {S : Type 0} (rules : List (Option VoidRule)) (h : List Entry) where
+  -- after an entry that quotes or withdraws an offer on a match
+  pub agrees_changed : (e : Entry) (name : List ℕ) (books books' : IndexMap (List ℕ) Book S) (waiting waiting' : BTreeMap ℕ (List ℕ)) (held : BTreeMap ℕ Held) →
+      IsQuiet e → ((m : List ℕ) → changes m e.event ≡ bytes_eq name m) →
+      ((m : List ℕ) (f n : ℕ) → offer_of books' m f n ≡ cond (is_about m f n e.event) (offer_made rules e.event) (offer_of books m f n)) →
+      ((m : List ℕ) → due_of books' m ≡ cond (bytes_eq name m) (option_or (due_of books m) (Some (length h))) (due_of books m)) →
+      ((at : ℕ) → waits_for waiting' at ≡ cond (is_none (due_of books name) && at == length h) (Some name) (waits_for waiting at)) →
+      Agrees rules h books waiting held → Agrees rules (h ++ e ∷ []) books' waiting' held
+  agrees_changed e name books books' waiting waiting' held quiet change offers_new due_new waits_new was =
+      record {
+        offers = λ m f n. offers_new m f n ∙ ap (λ (o : Option Offer). cond (is_about m f n e.event) (offer_made rules e.event) o) (was.offers m f n) ∙ sym (standing-push rules h e m f n);
+        due = λ m. let P : Option ℕ → Type 0 = λ o. WaitsSince (h ++ e ∷ []) m o in
+            subst P (sym (due_new m)) (waits_changed h e m (bytes_eq name m) (due_of books m) (change m) (quiet.pins_none m) (was.due m));
+        waits = waits_changed_at (due_of books) (due_of books') (waits_for waiting) (waits_for waiting') name (length h) due_new waits_new was.waits;
+        pins_are = λ caller. holds_stay rules h e caller (get nat_cmp held caller) (quiet.no_pin caller) (λ x _. quiet.closes_none x.version) (was.pins_are caller);
+      }
+
+  -- two matches are not due since one entry
+  due_once : (books : IndexMap (List ℕ) Book S) → ((m : List ℕ) → MatchOption (due_of books m) (IsDue h m → ⊥) (IsDueSince h m)) →
+      (a b : List ℕ) (place : ℕ) → due_of books a ≡ Some place → due_of books b ≡ Some place → a ≡ b
+  due_once books due a b place p q =
+      let P : List ℕ → Option ℕ → Type 0 = λ m o. MatchOption o (IsDue h m → ⊥) (IsDueSince h m) in
+      due_apart h a b place (subst (P a) p (due a)) (subst (P b) q (due b))
+
+  -- after a pin
+  pub agrees_pinned : (caller : ℕ) (x : Held) (books books' : IndexMap (List ℕ) Book S) (waiting waiting' : BTreeMap ℕ (List ℕ)) (held held' : BTreeMap ℕ Held) →
+      HasNoPin h caller → x.version ≡ length h →
+      x.offers.items ≡ sheet rules (h ++ record { caller = caller; event = Pinned x.match_name } ∷ []) x.version x.match_name →
+      ((m : List ℕ) (f n : ℕ) → offer_of books' m f n ≡ offer_of books m f n) →
+      ((m : List ℕ) → due_of books' m ≡ cond (bytes_eq x.match_name m) None (due_of books m)) →
+      ((at : ℕ) → waits_for waiting' at ≡ cond (option_map_or (λ place. place == at) (due_of books x.match_name) false) None (waits_for waiting at)) →
+      ((q : ℕ) → get nat_cmp held' q ≡ cond (is_at (nat_cmp caller) q) (Some x) (get nat_cmp held q)) →
+      Agrees rules h books waiting held → Agrees rules (h ++ record { caller = caller; event = Pinned x.match_name } ∷ []) books' waiting' held'
+  agrees_pinned caller x books books' waiting waiting' held held' none version is offers_new due_new waits_new held_is was =
+      let e : Entry = record { caller = caller; event = Pinned x.match_name } in
+      record {
+        offers = λ m f n. offers_new m f n ∙ was.offers m f n ∙ sym (standing-push rules h e m f n);
+        due = λ m. let P : Option ℕ → Type 0 = λ o. WaitsSince (h ++ e ∷ []) m o in
+            subst P (sym (due_new m)) (waits_pinned h e m (bytes_eq x.match_name m) (due_of books m) refl refl (was.due m));
+        waits = waits_pinned_at (due_of books) (due_of books') (waits_for waiting) (waits_for waiting') x.match_name due_new waits_new (due_once books was.due) was.waits;
+        pins_are = λ q. let P : Option Held → Type 0 = λ o. HoldsAt rules (h ++ e ∷ []) q o in
+            ⊎_elim
+            (λ (here : (caller == q) ≡ true).
+                let same : caller ≡ q = (Decides-eqb caller q).0 here in
+                let there : get nat_cmp held' q ≡ Some x = held_is q ∙ ap (λ (b : Bool). cond b (Some x) (get nat_cmp held q)) (at_caller caller q ∙ here) in
+                let Q : ℕ → Type 0 = λ c. IsHeld rules (h ++ e ∷ []) c x in
+                subst P (sym there) (subst Q same (held_new rules h caller x none version is)))
+            (λ (apart : (caller == q) ≡ false).
+                let there : get nat_cmp held' q ≡ get nat_cmp held q = held_is q ∙ ap (λ (b : Bool). cond b (Some x) (get nat_cmp held q)) (at_caller caller q ∙ apart) in
+                let quiet : IsNoPinOf q e = λ m same. both_ways _ apart ((Decides-eqb caller q).1 (ap (λ (y : Entry). y.caller) same)) in
+                subst P (sym there) (holds_stay rules h e q (get nat_cmp held q) quiet (λ y _. refl) (was.pins_are q)))
+            (cases_Bool (caller == q));
+      }
+
+  -- after an entry by which a caller closes its pin
+  pub agrees_closed : (e : Entry) (pin : Pin) (books : IndexMap (List ℕ) Book S) (waiting : BTreeMap ℕ (List ℕ)) (held held' : BTreeMap ℕ Held) →
+      IsLive h pin → ((m : List ℕ) → changes m e.event ≡ false) → ((m : List ℕ) → pins m e.event ≡ false) → ((m : List ℕ) (f n : ℕ) → is_about m f n e.event ≡ false) →
+      ((c : ℕ) → IsNoPinOf c e) → ((v : ℕ) → closes v e.event ≡ (pin.version == v)) →
+      ((q : ℕ) → get nat_cmp held' q ≡ cond (is_at (nat_cmp pin.caller) q) None (get nat_cmp held q)) →
+      Agrees rules h books waiting held → Agrees rules (h ++ e ∷ []) books waiting held'
+  agrees_closed e pin books waiting held held' live change pins_none about quiet closing held_is was =
+      record {
+        offers = λ m f n. was.offers m f n ∙ sym (standing-push rules h e m f n ∙ ap (λ (b : Bool). cond b (offer_made rules e.event) (standing rules h m f n)) (about m f n));
+        due = λ m. waits_kept h e m (due_of books m) (change m) (pins_none m) (was.due m);
+        waits = was.waits;
+        pins_are = λ q. let P : Option Held → Type 0 = λ o. HoldsAt rules (h ++ e ∷ []) q o in
+            ⊎_elim
+            (λ (here : (pin.caller == q) ≡ true).
+                let same : pin.caller ≡ q = (Decides-eqb pin.caller q).0 here in
+                let gone : get nat_cmp held' q ≡ None = held_is q ∙ ap (λ (b : Bool). cond b None (get nat_cmp held q)) (at_caller pin.caller q ∙ here) in
+                let Q : ℕ → Type 0 = λ c. HasNoPin (h ++ e ∷ []) c in
+                subst P (sym gone) (subst Q same (closed_now rules h e pin (get nat_cmp held pin.caller) live (quiet pin.caller) closing (was.pins_are pin.caller))))
+            (λ (apart : (pin.caller == q) ≡ false).
+                let there : get nat_cmp held' q ≡ get nat_cmp held q = held_is q ∙ ap (λ (b : Bool). cond b None (get nat_cmp held q)) (at_caller pin.caller q ∙ apart) in
+                subst P (sym there) (holds_stay rules h e q (get nat_cmp held q) (quiet q)
+                  (λ x its. closing x.version ∙ ⊎_elim
+                    (λ (same : (pin.version == x.version) ≡ true).
+                        let callers : pin.caller ≡ q = versions_apart h pin (record { caller = q; version = x.version; match_name = x.match_name }) live its.live ((Decides-eqb pin.version x.version).0 same) in
+                        absurd (both_ways _ apart ((Decides-eqb pin.caller q).1 callers)))
+                    (λ (other : (pin.version == x.version) ≡ false). other)
+                    (cases_Bool (pin.version == x.version)))
+                  (was.pins_are q)))
+            (cases_Bool (pin.caller == q));
+      }
