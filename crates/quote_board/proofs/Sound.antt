@@ -125,3 +125,45 @@ module _ {S : Type 0} (rules : List (Option VoidRule)) (h : List Entry) where
                   (was.pins_are q)))
             (cases_Bool (pin.caller == q));
       }
+
+-- the map of due matches, where nothing changed
+waits_same_at : (due due' : List ℕ → Option ℕ) (place : ℕ) → ((m : List ℕ) → due' m ≡ due m) → (there : Option (List ℕ)) →
+    MatchOption there ((m : List ℕ) → due m ≡ Some place → ⊥) (λ m. due m ≡ Some place) → MatchOption there ((m : List ℕ) → due' m ≡ Some place → ⊥) (λ m. due' m ≡ Some place)
+waits_same_at due due' place same None was = λ m now. was m (sym (same m) ∙ now)
+waits_same_at due due' place same (Some m) was = same m ∙ was
+
+module _ {S : Type 0} (allows : List Offer → Finding → Type 0) (rules : List (Option VoidRule)) (h : List Entry) where
+  -- where nothing is changed but how it is kept
+  pub sound_same : (capacity capacity' open_feeds : ℕ) (books books' : IndexMap (List ℕ) Book S) (waiting waiting' : BTreeMap ℕ (List ℕ)) (held : BTreeMap ℕ Held) →
+      ((m : List ℕ) (f n : ℕ) → offer_of books' m f n ≡ offer_of books m f n) → ((m : List ℕ) → due_of books' m ≡ due_of books m) →
+      ((at : ℕ) → waits_for waiting' at ≡ waits_for waiting at) → capacity ≤ capacity' →
+      IsSound allows rules h capacity books waiting held open_feeds → IsSound allows rules h capacity' books' waiting' held open_feeds
+  sound_same capacity capacity' open_feeds books books' waiting waiting' held offers due waits more was =
+      record {
+        legal = was.legal;
+        agrees = record {
+          offers = λ m f n. offers m f n ∙ was.agrees.offers m f n;
+          due = λ m. let P : Option ℕ → Type 0 = λ o. WaitsSince h m o in subst P (sym (due m)) (was.agrees.due m);
+          waits = λ place.
+              let P : Option (List ℕ) → Type 0 = λ there. MatchOption there ((m : List ℕ) → due_of books' m ≡ Some place → ⊥) (λ m. due_of books' m ≡ Some place) in
+              subst P (sym (waits place)) (waits_same_at (due_of books) (due_of books') place due (waits_for waiting place) (was.agrees.waits place));
+          pins_are = was.agrees.pins_are;
+        };
+        eight = was.eight;
+        open_is = was.open_is;
+        room = let room = was.room in omega (arith, room, more);
+      }
+
+  -- after one more entry that ends no feed
+  pub sound_more : (e : Entry) (capacity capacity' open_feeds : ℕ) (books books' : IndexMap (List ℕ) Book S) (waiting waiting' : BTreeMap ℕ (List ℕ)) (held held' : BTreeMap ℕ Held) →
+      MayFollow rules allows h e → ((feed : ℕ) → ends feed e.event ≡ false) → length h + btree_map_len held' + open_feeds + 1 ≤ capacity' →
+      Agrees rules (h ++ e ∷ []) books' waiting' held' →
+      IsSound allows rules h capacity books waiting held open_feeds → IsSound allows rules (h ++ e ∷ []) capacity' books' waiting' held' open_feeds
+  sound_more e capacity capacity' open_feeds books books' waiting waiting' held held' may none room agrees was =
+      record {
+        legal = legal_more rules allows h e was.legal may;
+        agrees = agrees;
+        eight = was.eight;
+        open_is = was.open_is ∙ open_kept rules h e none;
+        room = omega (arith, room, length-append h (e ∷ []));
+      }

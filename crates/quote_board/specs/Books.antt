@@ -1,5 +1,5 @@
 -- What is kept of each match: the offers that stand by their slots, and since when the match is due.
-use Rattle.std.specs.Prelude.{ℕ, ◌≡◌, List, [], Option, None, option_and_then}
+use Rattle.std.specs.Prelude.{ℕ, ◌≡◌, ◌<◌, List, [], Option, Some, None, MatchOption, option_and_then}
 use Rattle.std.specs.BTreeMap.{BTreeMap, get, values}
 use Rattle.std.specs.Option.{option_map_or}
 use Rattle.std.specs.Str.{bytes_eq}
@@ -25,6 +25,11 @@ waits_for waiting place = get nat_cmp waiting place
 -- the same matches are due since the same entries
 abbrev pub SameWaiting : BTreeMap ℕ (List ℕ) → BTreeMap ℕ (List ℕ) → Type 0
 SameWaiting a b = (place : ℕ) → waits_for b place ≡ waits_for a place
+
+-- the match that is due since the earliest entry, and none if no match is due
+abbrev pub IsFirstWaiting : BTreeMap ℕ (List ℕ) → Option (List ℕ) → Type 0
+IsFirstWaiting waiting first = MatchOption first ((place : ℕ) → waits_for waiting place ≡ None)
+    (λ match_name. (since : ℕ) × (waits_for waiting since ≡ Some match_name) × ((place : ℕ) → place < since → waits_for waiting place ≡ None))
 
 module _ {S : Type 0} where
   -- the offer that stands in a slot on a match
