@@ -1,7 +1,8 @@
 use crate::report_text;
 use feed_definitions::Header;
+use finding_definitions::{Measure, Stakes};
 use report_definitions::{MatchPart, ReadFeed};
-use result_verdict::{First, Measure, Stakes};
+use result_verdict::First;
 use scan_types::{HandicapLine, Name, Odds, Offer, Outcome, Selection, Sheet, TotalLine, VoidRule};
 use std::alloc::Global;
 use std::process::Abort;

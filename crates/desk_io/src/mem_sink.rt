@@ -4,9 +4,9 @@ ghost use Rattle.desk_io.specs.Faults.{raised};
 
 use crate::failing_calls::FailingCalls;
 use crate::{Sink, WriteFailed};
-use scan_types::WantOfMemory;
 use std::alloc::Global;
 use std::marker::Model;
+use want_of_memory::WantOfMemory;
 
 /// Keeps what is written to it, up to its room. Writes fail by their number, and where no room is left.
 /// A write takes no memory.

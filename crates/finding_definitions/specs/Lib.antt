@@ -4,3 +4,4 @@ pub mod Verdicts
 pub mod Fractions
 pub mod Findings
 pub mod Text
+pub mod Readable

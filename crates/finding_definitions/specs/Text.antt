@@ -24,9 +24,13 @@ counted fields items = decimal (length items) ∷ flat_map fields items
 abbrev pub stake_fields : List ℕ → List (List ℕ)
 stake_fields stakes = counted (λ stake. decimal stake ∷ []) stakes
 
+-- an outcome with its weight
+abbrev pub entry_fields : Outcome × ℕ → List (List ℕ)
+entry_fields entry = outcome_fields entry.0 ++ decimal entry.1 ∷ []
+
 -- outcomes, each with its weight
 abbrev pub measure_fields : List (Outcome × ℕ) → List (List ℕ)
-measure_fields measure = counted (λ entry. outcome_fields entry.0 ++ decimal entry.1 ∷ []) measure
+measure_fields measure = counted entry_fields measure
 
 -- the divisor, and then the parts
 abbrev pub fraction_fields : Fractions → List (List ℕ)

@@ -38,6 +38,13 @@ pub record IsRightThin (offers : List Offer) (divisor : ℕ) (parts : List ℕ) 
 abbrev pub need_with_slack : List Offer → Outcome → ℤ
 need_with_slack offers x = pos 1000 *ℤ need x +ℤ pos (sum_by (λ offer. slack offer x) offers)
 
+-- fractional stakes, the parts over the divisor, one per offer and within its limit, that win at every
+-- outcome what is needed there and what rounding them down may cost
+pub record ReachesSlack (offers : List Offer) (divisor : ℕ) (parts : List ℕ) : Type 0 where
+  pub divides : 1 ≤ divisor
+  pub within_limits : AllZip (λ offer part. part ≤ offer.limit * divisor) offers parts
+  pub wins : (x : Outcome) → (pos (2 * divisor) *ℤ need_with_slack offers x) ≤ℤ total_gain offers parts x
+
 -- fractional stakes win a whole unit, their floors do not, and no stakes within the limits win a unit
 -- and what rounding may cost
 pub record IsRightNarrow (offers : List Offer) (divisor : ℕ) (parts : List ℕ) (measure : List (Outcome × ℕ)) : Type 0 where

@@ -1,6 +1,10 @@
+ghost use Rattle.std.specs.Prelude.{◌≡◌, IfOk};
+
 use crate::measure::Measure;
 use crate::parts::Parts;
 use crate::stakes::Stakes;
+use scan_types::WantOfMemory;
+use std::alloc::Global;
 
 /// One of the three runs of a judgement.
 #[derive(Clone, Copy, Debug, PartialEq, Eq, PartialOrd, Ord, Hash)]
@@ -58,4 +62,33 @@ pub enum Finding {
         /// The pivots of that run.
         pivots: u32,
     },
+}
+
+impl Finding {
+    /// An equal finding, with memory of its own.
+    pub fn copy(&self, alloc: Global) -> Result<Finding, WantOfMemory>
+        ensures { IfOk result (λ copy. copy ≡ self.now) }
+    {
+        match self {
+            Finding::Arb(stakes) => Ok(Finding::Arb(stakes.copy(alloc)?)),
+            Finding::Coherent(measure) => Ok(Finding::Coherent(measure.copy(alloc)?)),
+            Finding::Thin(parts, measure) => {
+                let parts = parts.copy(alloc)?;
+                Ok(Finding::Thin(parts, measure.copy(alloc)?))
+            }
+            Finding::Narrow(parts, measure) => {
+                let parts = parts.copy(alloc)?;
+                Ok(Finding::Narrow(parts, measure.copy(alloc)?))
+            }
+            Finding::Wide { stage, pivots, at } => Ok(Finding::Wide {
+                stage: *stage,
+                pivots: *pivots,
+                at: *at,
+            }),
+            Finding::OutOfPivots { stage, pivots } => Ok(Finding::OutOfPivots {
+                stage: *stage,
+                pivots: *pivots,
+            }),
+        }
+    }
 }

@@ -1,6 +1,7 @@
-ghost use Rattle.std.specs.Prelude.{◌≡◌};
+ghost use Rattle.std.specs.Prelude.{◌≡◌, IfOk};
 
-use scan_types::Outcome;
+use scan_types::{Outcome, WantOfMemory};
+use std::alloc::Global;
 use std::marker::Model;
 
 /// Weights on outcomes of a match.
@@ -31,5 +32,14 @@ impl Measure {
         ensures { result.now ≡ self.now }
     {
         self.items.as_slice()
+    }
+
+    /// Equal weights, with memory of their own.
+    pub fn copy(&self, alloc: Global) -> Result<Measure, WantOfMemory>
+        ensures { IfOk result (λ copy. copy ≡ self.now) }
+    {
+        Ok(Measure {
+            items: Vec::from_slice(alloc, self.items.as_slice())?,
+        })
     }
 }

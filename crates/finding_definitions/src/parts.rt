@@ -1,5 +1,7 @@
-ghost use Rattle.std.specs.Prelude.{◌≡◌};
+ghost use Rattle.std.specs.Prelude.{◌≡◌, IfOk};
 
+use scan_types::WantOfMemory;
+use std::alloc::Global;
 use std::marker::Model;
 
 /// Fractional stakes, one for each offer of a sheet in its order: each part over the divisor, in minor
@@ -42,5 +44,15 @@ impl Parts {
         ensures { result.now ≡ self.now.parts }
     {
         self.items.as_slice()
+    }
+
+    /// Equal parts over the same divisor, with memory of their own.
+    pub fn copy(&self, alloc: Global) -> Result<Parts, WantOfMemory>
+        ensures { IfOk result (λ copy. copy ≡ self.now) }
+    {
+        Ok(Parts {
+            divisor: self.divisor,
+            items: Vec::from_slice(alloc, self.items.as_slice())?,
+        })
     }
 }

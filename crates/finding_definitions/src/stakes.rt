@@ -1,5 +1,7 @@
-ghost use Rattle.std.specs.Prelude.{◌≡◌};
+ghost use Rattle.std.specs.Prelude.{◌≡◌, IfOk};
 
+use scan_types::WantOfMemory;
+use std::alloc::Global;
 use std::marker::Model;
 
 /// Whole stakes in minor units of the currency, one for each offer of a sheet in its order.
@@ -29,5 +31,14 @@ impl Stakes {
         ensures { result.now ≡ self.now }
     {
         self.items.as_slice()
+    }
+
+    /// Equal stakes, with memory of their own.
+    pub fn copy(&self, alloc: Global) -> Result<Stakes, WantOfMemory>
+        ensures { IfOk result (λ copy. copy ≡ self.now) }
+    {
+        Ok(Stakes {
+            items: Vec::from_slice(alloc, self.items.as_slice())?,
+        })
     }
 }

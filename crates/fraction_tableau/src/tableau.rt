@@ -4,9 +4,9 @@ ghost use Rattle.pivot_definitions.specs.Tableaus.{IsKeptTableau, column_count, 
 
 use crate::program::Program;
 use crate::row::Row;
-use scan_types::WantOfMemory;
 use std::alloc::Global;
 use std::marker::Model;
+use want_of_memory::WantOfMemory;
 
 /// A simplex tableau: a row for each row of the program, and the objective row, over the program's columns, a slack
 /// column for each row, and the right side. Each row is divided by the greatest common divisor of its entries.

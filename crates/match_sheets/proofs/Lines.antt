@@ -9,8 +9,8 @@ use Rattle.std.proofs.lemmas.Option.{cond_some, option_and_then_some}
 use Rattle.std.proofs.lemmas.Bool.{and_parts}
 use Rattle.std.proofs.lemmas.Slice.Eq.{bytes_eq-Decides}
 use Rattle.feed_definitions.specs.Plain.{LineText, ChangeText, Quote, Withdrawal, is_quote_change}
-use Rattle.report_definitions.specs.Standing.{quoted}
-use Rattle.match_sheets.specs.Board.{standing_at, is_about_number, IsNamed}
+use Rattle.feed_definitions.specs.Standing.{is_about, quoted, standing}
+use Rattle.match_sheets.specs.Board.{IsNamed}
 
 and_then_cond : {A B : Type 0} (f : A → Option B) (b : Bool) (x : A) (o : Option A)
     → option_and_then f (cond b (Some x) o) ≡ cond b (f x) (option_and_then f o)
@@ -18,11 +18,11 @@ and_then_cond f true x o = refl
 and_then_cond f false x o = refl
 
 -- a further line decides where it is about the selection
-pub standing_at-push : (lines : List LineText) (x : LineText) (name : List ℕ) (number : ℕ)
-    → standing_at (lines ++ x ∷ []) name number ≡ (if is_about_number name number x then quoted x.change else standing_at lines name number)
-standing_at-push lines x name number =
-    ap (λ (r : List LineText). option_and_then (λ (line : LineText). quoted line.change) (find (is_about_number name number) r)) (reverse-append lines (x ∷ []))
-    ∙ and_then_cond (λ (line : LineText). quoted line.change) (is_about_number name number x) x (find (is_about_number name number) (reverse lines))
+pub standing-push : (lines : List LineText) (x : LineText) (name : List ℕ) (number : ℕ)
+    → standing (lines ++ x ∷ []) name number ≡ (if is_about name number x then quoted x.change else standing lines name number)
+standing-push lines x name number =
+    ap (λ (r : List LineText). option_and_then (λ (line : LineText). quoted line.change) (find (is_about name number) r)) (reverse-append lines (x ∷ []))
+    ∙ and_then_cond (λ (line : LineText). quoted line.change) (is_about name number x) x (find (is_about name number) (reverse lines))
 
 -- what is found in a list from its end is an element of it
 pub find_reverse : {A : Type 0} (p : A → Bool) (xs : List A) (x : A) → find p (reverse xs) ≡ Some x → (p x ≡ true) × Contains xs x
@@ -40,11 +40,11 @@ quote_stands (Quote thousandths limit) v h = refl
 quote_stands Withdrawal v h = cc
 
 -- where something stands of a match, a line quotes it
-pub IsNamed-from_standing : (lines : ℕ → List LineText) (name : List ℕ) (k number : ℕ) (v : ℕ × ℕ) → standing_at (lines k) name number ≡ Some v → IsNamed lines name
+pub IsNamed-from_standing : (lines : ℕ → List LineText) (name : List ℕ) (k number : ℕ) (v : ℕ × ℕ) → standing (lines k) name number ≡ Some v → IsNamed lines name
 IsNamed-from_standing lines name k number v h =
-    option_and_then_some {P = IsNamed lines name} (λ (line : LineText). quoted line.change) (find (is_about_number name number) (reverse (lines k))) v h
+    option_and_then_some {P = IsNamed lines name} (λ (line : LineText). quoted line.change) (find (is_about name number) (reverse (lines k))) v h
     (λ line found says.
-    let f = find_reverse (is_about_number name number) (lines k) line found in
+    let f = find_reverse (is_about name number) (lines k) line found in
     record {
       feed = k;
       line = line;

@@ -1,6 +1,6 @@
 -- The matches of a board are those of its feeds.
 use Rattle.std.proofs.Common.{ℕ, ◌≡◌, ◌+◌, ◌*◌, ◌/◌, ◌%◌, ◌<◌, ◌≤◌, List, [], ◌∷◌, true, Some, None, refl, sym, ap, subst, ◌∙◌, inl, inr, length, get_or, arith, map, zero, suc}
-use Rattle.std.specs.Prelude.{Option, All, Any, Contains, IfSome, IsSome, IsSomeAnd, is_some, reverse, find, slice_get, slice_index_or, ◌==◌}
+use Rattle.std.specs.Prelude.{Option, option_map, All, Any, Contains, IfSome, IsSome, IsSomeAnd, is_some, reverse, find, slice_get, slice_index_or, ◌==◌}
 use Rattle.std.specs.Option.{option_map_or}
 use Rattle.std.specs.List.{AllZip}
 use Rattle.std.specs.BTreeMap.{BTreeMap, get, keys, is_at, IsOrdered}
@@ -25,14 +25,15 @@ use Rattle.feed_definitions.specs.Plain.{LineText}
 use Rattle.feed_definitions.specs.Views.{line_text, IsResultQuote}
 use Rattle.report_definitions.specs.declared.match_part.MatchPart.{MatchPart}
 use Rattle.report_definitions.specs.declared.read_feed.ReadFeed.{ReadFeed}
-use Rattle.report_definitions.specs.Standing.{FeedPart, feed_part, quoted, standing, Stands, IsQuoted, IsSheetOf}
+use Rattle.report_definitions.specs.Standing.{FeedPart, feed_part, rules_of, lines_of, IsQuoted}
+use Rattle.feed_definitions.specs.Standing.{is_about, quoted, standing, Stands, IsSheetOf}
 use Rattle.report_definitions.specs.Report.{AreMatchesOf}
 use Rattle.result_verdict.specs.Findings.{IsFirstFinding, IsRightFirst}
 use Rattle.match_sheets.specs.declared.slots.Slots.{Slots}
 use Rattle.match_sheets.specs.declared.slots.TheConstants.{SLOTS}
 use Rattle.match_sheets.specs.Plain.{ArePlain, IsPlainFeed}
 use Rattle.match_sheets.specs.Slots.{slot_of, IsInPlace, ArePlaced, AreOffersOf, IsPartOf}
-use Rattle.match_sheets.specs.Board.{lines_of, standing_at, is_about_number, IsStanding, IsSlot, AreSlots, IsNamed, IsEntry, IsBoard}
+use Rattle.match_sheets.specs.Board.{IsStanding, IsSlot, AreSlots, IsNamed, IsEntry, IsBoard}
 use Rattle.match_sheets.proofs.Lines.{find_reverse}
 use Rattle.match_sheets.proofs.Results.{number_of_result}
 use Rattle.match_sheets.proofs.Zips.{AllZip-at, length-all_zip}
@@ -75,7 +76,7 @@ lines_at feeds k feed e = ap (λ (o : Option FeedPart). option_map_or (λ (f : F
 
 -- an offer of the sheet stands in its feed
 stands_from_slots : (feeds : List FeedPart) (name : List ℕ) → All IsPlainPart feeds → (slots : List (Option Offer)) → AreSlots (lines_of feeds) name slots
-    → (offer : Offer) → slice_index_or slots (slot_of offer) None ≡ Some offer → Stands feeds name offer
+    → (offer : Offer) → slice_index_or slots (slot_of offer) None ≡ Some offer → Stands (rules_of feeds) (lines_of feeds) name offer
 stands_from_slots feeds name plain slots h offer at =
     by (slice_get feeds offer.feed) refl
   where
@@ -93,49 +94,48 @@ stands_from_slots feeds name plain slots h offer at =
     stand : IsStanding (lines_of feeds offer.feed) name offer.feed (selection_number offer.selection) offer
     stand =
         let few = offer.feed_at_most in
-        MatchOption-at_some (standing_at (lines_of feeds offer.feed) name (selection_number offer.selection) ≡ None) (IsStanding (lines_of feeds offer.feed) name offer.feed (selection_number offer.selection)) offer at
+        MatchOption-at_some (standing (lines_of feeds offer.feed) name (selection_number offer.selection) ≡ None) (IsStanding (lines_of feeds offer.feed) name offer.feed (selection_number offer.selection)) offer at
         (h.each offer.feed (selection_number offer.selection) (omega arith) placed.result)
 
-    by : (o : Option FeedPart) → slice_get feeds offer.feed ≡ o → Stands feeds name offer
+    by : (o : Option FeedPart) → slice_get feeds offer.feed ≡ o → Stands (rules_of feeds) (lines_of feeds) name offer
     by None e =
         let v : ℕ × ℕ = (offer.odds.thousandths, offer.limit) in
         absurd (none-some v
-        (sym (ap (λ (o : Option FeedPart). standing_at (option_map_or (λ (f : FeedPart). f.accepted) o []) name (selection_number offer.selection)) e) ∙ stand.stands))
+        (sym (ap (λ (o : Option FeedPart). standing (option_map_or (λ (f : FeedPart). f.accepted) o []) name (selection_number offer.selection)) e) ∙ stand.stands))
     by (Some feed) e =
-        subst (λ (o : Option FeedPart). IsSomeAnd o (λ (f : FeedPart). (standing f.accepted name offer.selection ≡ Some (offer.odds.thousandths, offer.limit)) × (offer.rule ≡ f.rule)))
-        (sym e) (
-          sym (ap (λ (ls : List LineText). standing_at ls name (selection_number offer.selection)) (lines_at feeds offer.feed feed e)) ∙ stand.stands,
-          stand.rule ∙ sym (plain_at feeds plain offer.feed feed e).rule,
-        )
+        record {
+          terms = stand.stands;
+          rule = ap (option_map (λ (f : FeedPart). f.rule)) e ∙ ap Some ((plain_at feeds plain offer.feed feed e).rule ∙ sym stand.rule);
+        }
 
 -- what stands of a selection comes from a line about it
-standing_number : (lines : List LineText) (name : List ℕ) (number : ℕ) → All (λ line. selection_number line.selection < 3) lines → (v : ℕ × ℕ) → standing_at lines name number ≡ Some v → number < 3
+standing_number : (lines : List LineText) (name : List ℕ) (number : ℕ) → All (λ line. selection_number line.selection < 3) lines → (v : ℕ × ℕ) → standing lines name number ≡ Some v → number < 3
 standing_number lines name number results v h =
-    option_and_then_some {P = number < 3} (λ (line : LineText). quoted line.change) (find (is_about_number name number) (reverse lines)) v h
+    option_and_then_some {P = number < 3} (λ (line : LineText). quoted line.change) (find (is_about name number) (reverse lines)) v h
     (λ line found says.
-    let f = find_reverse (is_about_number name number) lines line found in
+    let f = find_reverse (is_about name number) lines line found in
     let same : selection_number line.selection ≡ number = eqb-true (selection_number line.selection) number (and_parts (bytes_eq line.match_name name) (selection_number line.selection == number) f.0).1 in
     let below : selection_number line.selection < 3 = All-contains (λ (l : LineText). selection_number l.selection < 3) lines line results f.1 in
     omega arith)
 
--- each offer that stands is on the sheet
-each_from_slots : (feeds : List FeedPart) (name : List ℕ) → length feeds ≤ 8 → All IsPlainPart feeds → (slots : List (Option Offer)) → AreSlots (lines_of feeds) name slots
+-- each offer that stands in a feed is on the sheet
+each_of_feed : (feeds : List FeedPart) (name : List ℕ) → length feeds ≤ 8 → All IsPlainPart feeds → (slots : List (Option Offer)) → AreSlots (lines_of feeds) name slots
     → (offers : List Offer) → AreOffersOf slots offers
-    → (k : ℕ) (feed : FeedPart) (selection : Selection) → slice_get feeds k ≡ Some feed → IsSome (standing feed.accepted name selection)
+    → (k : ℕ) (feed : FeedPart) (selection : Selection) → slice_get feeds k ≡ Some feed → IsSome (standing feed.accepted name (selection_number selection))
     → Any (λ offer. (offer.feed ≡ k) × (selection_number offer.selection ≡ selection_number selection)) offers
-each_from_slots feeds name few plain slots h offers o k feed selection e some =
-    by (standing_at feed.accepted name (selection_number selection)) refl some
+each_of_feed feeds name few plain slots h offers o k feed selection e some =
+    by (standing feed.accepted name (selection_number selection)) refl some
   where
     within : k < 8
     within = let l = slice_get_within feeds k feed e in omega arith
 
-    at : (number : ℕ) → number ≡ selection_number selection → number < 3 → (slot : Option Offer) → (v : ℕ × ℕ) → standing_at feed.accepted name number ≡ Some v
+    at : (number : ℕ) → number ≡ selection_number selection → number < 3 → (slot : Option Offer) → (v : ℕ × ℕ) → standing feed.accepted name number ≡ Some v
         → IsSlot feed.accepted name k number slot → IfSome slot (Contains offers)
         → Any (λ offer. (offer.feed ≡ k) × (selection_number offer.selection ≡ selection_number selection)) offers
     at number n l None v stands s c = let none : None ≡ Some v = sym s ∙ stands in cc
     at number n l (Some offer) v stands s c = (c.0, offer, c.1, c.2, (s.feed, s.selection ∙ n))
 
-    by : (v : Option (ℕ × ℕ)) → standing_at feed.accepted name (selection_number selection) ≡ v → is_some v ≡ true
+    by : (v : Option (ℕ × ℕ)) → standing feed.accepted name (selection_number selection) ≡ v → is_some v ≡ true
         → Any (λ offer. (offer.feed ≡ k) × (selection_number offer.selection ≡ selection_number selection)) offers
     by None stands t = cc
     by (Some v) stands t =
@@ -145,13 +145,30 @@ each_from_slots feeds name few plain slots h offers o k feed selection e some =
         (h.each k (selection_number selection) within number))
         (o.each (3 * k + selection_number selection) (let w = within in omega arith))
 
+-- each offer that stands is on the sheet
+each_from_slots : (feeds : List FeedPart) (name : List ℕ) → length feeds ≤ 8 → All IsPlainPart feeds → (slots : List (Option Offer)) → AreSlots (lines_of feeds) name slots
+    → (offers : List Offer) → AreOffersOf slots offers
+    → (k : ℕ) (selection : Selection) → IsSome (standing (lines_of feeds k) name (selection_number selection))
+    → Any (λ offer. (offer.feed ≡ k) × (selection_number offer.selection ≡ selection_number selection)) offers
+each_from_slots feeds name few plain slots h offers o k selection some =
+    by (slice_get feeds k) refl
+  where
+    IsLeft : List LineText → Type 0
+    IsLeft lines = IsSome (standing lines name (selection_number selection))
+
+    by : (found : Option FeedPart) → slice_get feeds k ≡ found → Any (λ offer. (offer.feed ≡ k) × (selection_number offer.selection ≡ selection_number selection)) offers
+    by None e =
+        let none : IsSome (standing [] name (selection_number selection)) = subst (λ (f : Option FeedPart). IsLeft (option_map_or (λ (part : FeedPart). part.accepted) f [])) e some in
+        cc
+    by (Some feed) e = each_of_feed feeds name few plain slots h offers o k feed selection e (subst IsLeft (lines_at feeds k feed e) some)
+
 -- the offers in the slots are the match's sheet
 IsSheetOf-from_slots : (feeds : List FeedPart) (name : List ℕ) → length feeds ≤ 8 → All IsPlainPart feeds → (slots : List (Option Offer)) → AreSlots (lines_of feeds) name slots
-    → (offers : List Offer) → AreOffersOf slots offers → IsSheetOf feeds name offers
+    → (offers : List Offer) → AreOffersOf slots offers → IsSheetOf (rules_of feeds) (lines_of feeds) name offers
 IsSheetOf-from_slots feeds name few plain slots h offers o =
     record {
       rising = o.rising;
-      only = All-weaker (λ (offer : Offer). slice_index_or slots (slot_of offer) None ≡ Some offer) (Stands feeds name) (stands_from_slots feeds name plain slots h) offers o.only;
+      only = All-weaker (λ (offer : Offer). slice_index_or slots (slot_of offer) None ≡ Some offer) (Stands (rules_of feeds) (lines_of feeds) name) (stands_from_slots feeds name plain slots h) offers o.only;
       each = each_from_slots feeds name few plain slots h offers o;
     }
 
@@ -221,7 +238,7 @@ AreMatchesOf-from_board feeds few plain m ordered board parts z =
           subst (λ (name : List ℕ). IsQuoted feeds name) (sym p.name) (IsQuoted-from_named feeds _ (entry k l).0);
       sheets = λ k d l.
           let p = part_at m.entries parts z k d l in
-          subst (λ (name : List ℕ). IsSheetOf feeds name (get_or parts k d).sheet) (sym p.name) (IsSheetOf-from_slots feeds _ few plain _ (entry k l).1 (get_or parts k d).sheet p.offers);
+          subst (λ (name : List ℕ). IsSheetOf (rules_of feeds) (lines_of feeds) name (get_or parts k d).sheet) (sym p.name) (IsSheetOf-from_slots feeds _ few plain _ (entry k l).1 (get_or parts k d).sheet p.offers);
     }
   where
     long : length parts ≡ length m.entries

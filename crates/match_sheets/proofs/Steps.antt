@@ -15,12 +15,12 @@ use Rattle.scan_types.specs.declared.offer.Offer.{Offer}
 use Rattle.scan_types.specs.declared.rule.VoidRule.TheVariants.{Void}
 use Rattle.scan_types.specs.Selections.{selection_number}
 use Rattle.feed_definitions.specs.Plain.{LineText, Quote, is_quote_change}
-use Rattle.report_definitions.specs.Standing.{quoted}
+use Rattle.feed_definitions.specs.Standing.{is_about, quoted, standing}
 use Rattle.match_sheets.specs.declared.slots.Slots.{Slots}
 use Rattle.match_sheets.specs.declared.slots.TheConstants.{SLOTS}
 use Rattle.match_sheets.specs.Slots.{slot_of}
-use Rattle.match_sheets.specs.Board.{standing_at, is_about_number, IsNamed, IsSlot, AreSlots, IsEntry, IsBoard, with_offer}
-use Rattle.match_sheets.proofs.Lines.{standing_at-push, IsNamed-from_standing}
+use Rattle.match_sheets.specs.Board.{IsNamed, IsSlot, AreSlots, IsEntry, IsBoard, with_offer}
+use Rattle.match_sheets.proofs.Lines.{standing-push, IsNamed-from_standing}
 
 -- the offer is what the line of feed i quotes
 pub record Quotes (line : LineText) (i : ℕ) (offer : Offer) : Type 0 where
@@ -40,19 +40,19 @@ lines_here : (before after : ℕ → List LineText) (i : ℕ) (line : LineText) 
 lines_here before after i line g k e = ap after e ∙ g.here ∙ ap (λ j. before j ++ line ∷ []) (sym e)
 
 standing_kept : (before after : ℕ → List LineText) (i : ℕ) (line : LineText) → GoesOn before after i line → (name : List ℕ) (k number : ℕ)
-    → (k ≡ i → is_about_number name number line ≡ false) → standing_at (after k) name number ≡ standing_at (before k) name number
+    → (k ≡ i → is_about name number line ≡ false) → standing (after k) name number ≡ standing (before k) name number
 standing_kept before after i line g name k number apart =
     elim (cases_eq k i) [
-      | inl e ↦ ap (λ ls. standing_at ls name number) (lines_here before after i line g k e) ∙ standing_at-push (before k) line name number ∙ cond-false _ _ _ (apart e)
-      | inr ne ↦ ap (λ ls. standing_at ls name number) (g.others k ne)
+      | inl e ↦ ap (λ ls. standing ls name number) (lines_here before after i line g k e) ∙ standing-push (before k) line name number ∙ cond-false _ _ _ (apart e)
+      | inr ne ↦ ap (λ ls. standing ls name number) (g.others k ne)
     ]
 
 standing_new : (before after : ℕ → List LineText) (i : ℕ) (line : LineText) (offer : Offer) → GoesOn before after i line → Quotes line i offer
     → (k number : ℕ) → k ≡ i → number ≡ selection_number offer.selection
-    → standing_at (after k) line.match_name number ≡ Some (offer.odds.thousandths, offer.limit)
+    → standing (after k) line.match_name number ≡ Some (offer.odds.thousandths, offer.limit)
 standing_new before after i line offer g q k number e f =
-    ap (λ ls. standing_at ls line.match_name number) (lines_here before after i line g k e)
-    ∙ standing_at-push (before k) line line.match_name number
+    ap (λ ls. standing ls line.match_name number) (lines_here before after i line g k e)
+    ∙ standing-push (before k) line line.match_name number
     ∙ cond-true _ _ _ (and_from _ _ ((bytes_eq-Decides line.match_name line.match_name).1 refl) (eq-eqb _ _ (q.selection ∙ sym f)))
     ∙ ap quoted q.change
 
@@ -96,7 +96,7 @@ named_back before after i line g name other n =
     }
 
 -- a slot depends on what stands alone
-slot_same : (lines later : List LineText) (name : List ℕ) (k number : ℕ) (slot : Option Offer) → standing_at later name number ≡ standing_at lines name number
+slot_same : (lines later : List LineText) (name : List ℕ) (k number : ℕ) (slot : Option Offer) → standing later name number ≡ standing lines name number
     → IsSlot lines name k number slot → IsSlot later name k number slot
 slot_same lines later name k number None e h = e ∙ h
 slot_same lines later name k number (Some offer) e h = record { feed = h.feed; selection = h.selection; stands = e ∙ h.stands; rule = h.rule }
@@ -109,10 +109,10 @@ slots_kept before after i line g name other slots h =
       each = λ k number hk hn. slot_same (before k) (after k) name k number _ (standing_kept before after i line g name k number (λ _. and_left _ _ other)) (h.each k number hk hn);
     }
 
-standing_none : (lines : ℕ → List LineText) (name : List ℕ) → ¬ (IsNamed lines name) → (k number : ℕ) → standing_at (lines k) name number ≡ None
-standing_none lines name h k number = by (standing_at (lines k) name number) refl
+standing_none : (lines : ℕ → List LineText) (name : List ℕ) → ¬ (IsNamed lines name) → (k number : ℕ) → standing (lines k) name number ≡ None
+standing_none lines name h k number = by (standing (lines k) name number) refl
   where
-    by : (o : Option (ℕ × ℕ)) → standing_at (lines k) name number ≡ o → standing_at (lines k) name number ≡ None
+    by : (o : Option (ℕ × ℕ)) → standing (lines k) name number ≡ o → standing (lines k) name number ≡ None
     by None e = e
     by (Some v) e = absurd (h (IsNamed-from_standing lines name k number v e))
 

@@ -13,9 +13,9 @@ use Rattle.feed_definitions.specs.declared.accepted.Accepted.{Accepted}
 use Rattle.feed_definitions.specs.Plain.{LineText}
 use Rattle.feed_definitions.specs.Views.{line_text}
 use Rattle.report_definitions.specs.declared.read_feed.ReadFeed.{ReadFeed}
-use Rattle.report_definitions.specs.Standing.{FeedPart, feed_part}
+use Rattle.report_definitions.specs.Standing.{FeedPart, feed_part, lines_of}
 use Rattle.match_sheets.specs.declared.slots.Slots.{Slots}
-use Rattle.match_sheets.specs.Board.{IsBoard, lines_of, lines_before}
+use Rattle.match_sheets.specs.Board.{IsBoard, lines_before}
 use Rattle.match_sheets.proofs.Steps.{GoesOn}
 
 -- the lines of the first n feeds, and the first j of the next

@@ -9,39 +9,27 @@ use Rattle.scan_types.specs.declared.offer.Offer.{Offer}
 use Rattle.scan_types.specs.declared.rule.VoidRule.TheVariants.{Void}
 use Rattle.scan_types.specs.Selections.{selection_number}
 use Rattle.feed_definitions.specs.Plain.{LineText, is_quote}
-use Rattle.report_definitions.specs.Standing.{FeedPart, quoted}
+use Rattle.report_definitions.specs.Standing.{FeedPart, lines_of}
+use Rattle.feed_definitions.specs.Standing.{standing}
 use Rattle.match_sheets.specs.declared.slots.Slots.{Slots}
 use Rattle.match_sheets.specs.declared.slots.TheConstants.{SLOTS}
 use Rattle.match_sheets.specs.Slots.{slot_of}
-
--- the accepted lines of a feed, and none beyond the last feed
-abbrev pub lines_of : List FeedPart → ℕ → List LineText
-lines_of feeds k = option_map_or (λ feed. feed.accepted) (slice_get feeds k) []
 
 -- the accepted lines of the first n feeds
 abbrev pub lines_before : List FeedPart → ℕ → ℕ → List LineText
 lines_before feeds n k = if nat_lt k n then lines_of feeds k else []
 
--- the line is about the selection of this number on this match
-abbrev pub is_about_number : List ℕ → ℕ → LineText → Bool
-is_about_number match_name number line = bytes_eq line.match_name match_name && (selection_number line.selection == number)
-
--- what these lines leave standing of the selection of this number on a match
-abbrev pub standing_at : List LineText → List ℕ → ℕ → Option (ℕ × ℕ)
-standing_at lines match_name number =
-    option_and_then (λ line. quoted line.change) (find (is_about_number match_name number) (reverse lines))
-
 -- the offer is the one of feed k that these lines leave standing
 pub record IsStanding (lines : List LineText) (match_name : List ℕ) (k number : ℕ) (offer : Offer) : Type 0 where
   pub feed : offer.feed ≡ k
   pub selection : selection_number offer.selection ≡ number
-  pub stands : standing_at lines match_name number ≡ Some (offer.odds.thousandths, offer.limit)
+  pub stands : standing lines match_name number ≡ Some (offer.odds.thousandths, offer.limit)
   pub rule : offer.rule ≡ Void
 
 -- the slot has the offer that stands, and none where none stands
 abbrev pub IsSlot : List LineText → List ℕ → ℕ → ℕ → Option Offer → Type 0
 IsSlot lines match_name k number slot =
-    MatchOption slot (standing_at lines match_name number ≡ None) (IsStanding lines match_name k number)
+    MatchOption slot (standing lines match_name number ≡ None) (IsStanding lines match_name k number)
 
 -- each slot has what stands
 pub record AreSlots (lines : ℕ → List LineText) (match_name : List ℕ) (slots : List (Option Offer)) : Type 0 where

@@ -2,3 +2,4 @@ pub mod Products
 pub mod Averages
 pub mod Roundings
 pub mod Verdict
+pub mod Limits

@@ -2,7 +2,7 @@ use Rattle.std.specs.Prelude.{ℕ, pos, ◌≤◌, ◌*◌, ◌*ℤ◌, ◌≤�
 use Rattle.scan_types.specs.declared.offer.Offer.{Offer}
 use Rattle.scan_types.specs.declared.outcome.Outcome.{Outcome}
 use Rattle.finding_definitions.specs.Arbitrage.{need, total_gain, IsArbitrage, ReachesUnit}
-use Rattle.finding_definitions.specs.Verdicts.{IsRightCoherent}
+use Rattle.finding_definitions.specs.Verdicts.{IsRightCoherent, IsRightThin, IsRightNarrow, ReachesSlack}
 
 -- stakes in fractions, the parts over the divisor, that win at least one minor unit at every final score
 -- and lose nothing at any abandonment, whatever the limits are
@@ -24,3 +24,18 @@ RulesOutReach =
 abbrev pub RulesOutArbitrage : Type 0
 RulesOutArbitrage =
     (offers : List Offer) (measure : List (Outcome × ℕ)) (stakes : List ℕ) → IsRightCoherent offers measure → ¬ IsArbitrage offers stakes
+
+-- weights that no stakes within the limits can outweigh by a whole unit rule out that such stakes reach one
+abbrev pub ThinRulesOutReach : Type 0
+ThinRulesOutReach =
+    (offers : List Offer) (measure : List (Outcome × ℕ)) (d divisor : ℕ) (found parts : List ℕ) → IsRightThin offers d found measure → ¬ ReachesUnit offers divisor parts
+
+-- and so every arbitrage in whole stakes
+abbrev pub ThinRulesOutArbitrage : Type 0
+ThinRulesOutArbitrage =
+    (offers : List Offer) (measure : List (Outcome × ℕ)) (d : ℕ) (found stakes : List ℕ) → IsRightThin offers d found measure → ¬ IsArbitrage offers stakes
+
+-- weights that outweigh the need with slack rule out that stakes within the limits reach it
+abbrev pub NarrowRulesOutSlack : Type 0
+NarrowRulesOutSlack =
+    (offers : List Offer) (measure : List (Outcome × ℕ)) (d divisor : ℕ) (found parts : List ℕ) → IsRightNarrow offers d found measure → ¬ ReachesSlack offers divisor parts

@@ -4,12 +4,15 @@ use Rattle.std.specs.List.{flat_map, enumerate_from}
 use Rattle.std.specs.Cmp.Lexicographic.{slice_cmp}
 use Rattle.std.specs.Ordering.{nat_cmp}
 use Rattle.std.specs.declared.cmp.Ordering.TheVariants as ordering
+use Rattle.scan_types.specs.declared.limits.TheConstants.{DEFAULT_PIVOTS}
 use Rattle.scan_types.specs.declared.offer.Offer.{Offer}
+use Rattle.feed_definitions.specs.Standing.{IsSheetOf}
 use Rattle.finding_definitions.specs.Text.{stake_fields, measure_fields}
+use Rattle.result_verdict.specs.Findings.{IsFirstFinding, IsRightFirst}
 use Rattle.result_verdict.specs.declared.First.{First}
 use Rattle.result_verdict.specs.declared.First.TheVariants.{Arb, Coherent, Unsettled1}
 use Rattle.report_definitions.specs.declared.match_part.MatchPart.{MatchPart}
-use Rattle.report_definitions.specs.Standing.{FeedPart, IsQuoted, IsSheetOf}
+use Rattle.report_definitions.specs.Standing.{FeedPart, rules_of, lines_of, IsQuoted}
 use Rattle.report_definitions.specs.Words.{line_of, odds_text, selection_fields, rule_text}
 
 abbrev pub finding_fields : First → List (List ℕ)
@@ -44,4 +47,18 @@ pub record AreMatchesOf (feeds : List FeedPart) (matches : List MatchPart) : Typ
   pub rising : AllPairs (λ a b. slice_cmp nat_cmp a.match_name b.match_name ≡ ordering.Less) matches
   pub quoted : (match_name : List ℕ) → IsQuoted feeds match_name → Any (λ part. part.match_name ≡ match_name) matches
   pub only : All (λ part. IsQuoted feeds part.match_name) matches
-  pub sheets : All (λ part. IsSheetOf feeds part.match_name part.sheet) matches
+  pub sheets : All (λ part. IsSheetOf (rules_of feeds) (lines_of feeds) part.match_name part.sheet) matches
+
+-- the matches are those of the feeds, each with the finding of its sheet
+pub record AreFoundMatches (feeds : List FeedPart) (matches : List MatchPart) : Type 0 where
+  pub quoted : AreMatchesOf feeds matches
+  pub found : All (λ part. IsFirstFinding part.sheet part.finding) matches
+
+-- the report of these feeds: each match that a feed quoted has the sheet of what stands on it and the finding of that sheet,
+-- and each verdict is right at every final score and every abandonment; no finding of this stage comes from pivots
+pub record IsReport (feeds : List FeedPart) (report : List ℕ) : Type 0 where
+  pub matches : List MatchPart
+  pub quoted : AreMatchesOf feeds matches
+  pub found : All (λ part. IsFirstFinding part.sheet part.finding) matches
+  pub right : All (λ part. IsRightFirst part.sheet part.finding) matches
+  pub text : report ≡ report_text DEFAULT_PIVOTS feeds matches

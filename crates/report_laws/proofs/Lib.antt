@@ -1,4 +1,1 @@
-mod Orders
-mod Terms
-mod Sheets
 mod Matches

@@ -4,17 +4,18 @@ use Rattle.std.specs.Cmp.Lexicographic.{slice_cmp}
 use Rattle.std.specs.Ordering.{nat_cmp, ordering_reverse}
 use Rattle.std.specs.declared.cmp.Ordering.TheVariants as ordering
 use Rattle.std.proofs.lemmas.Cmp.{nat_list_cmp_total}
+use Rattle.scan_types.specs.declared.limits.TheConstants.{DEFAULT_PIVOTS}
 use Rattle.scan_types.specs.declared.offer.Offer.{Offer}
+use Rattle.feed_definitions.specs.Standing.{IsSheetOf}
 use Rattle.result_verdict.specs.declared.First.{First}
 use Rattle.result_verdict.specs.Findings.{IsFirstFinding}
 use Rattle.result_verdict.proofs.Uniques.{finding_is_one}
 use Rattle.report_definitions.specs.declared.match_part.MatchPart.{MatchPart}
-use Rattle.report_definitions.specs.Standing.{FeedPart, IsQuoted, IsSheetOf}
-use Rattle.report_definitions.specs.Report.{report_text}
-use Rattle.scan_desk.specs.Desk.{default_pivots, IsReport}
-use Rattle.report_laws.specs.Laws.{AreFoundMatches, IsReportText}
-use Rattle.report_laws.proofs.Orders.{IsIn, all_at, any_in, below_of, same_lists}
-use Rattle.report_laws.proofs.Sheets.{one_sheet}
+use Rattle.report_definitions.specs.Standing.{FeedPart, rules_of, lines_of, IsQuoted}
+use Rattle.report_definitions.specs.Report.{report_text, AreFoundMatches, IsReport}
+use Rattle.report_laws.specs.Laws.{IsReportText}
+use Rattle.feed_definitions.proofs.Orders.{IsIn, all_at, any_in, below_of, same_lists}
+use Rattle.feed_definitions.proofs.Sheets.{one_sheet}
 
 abbrev NameIsBelow : MatchPart → MatchPart → Type 0
 NameIsBelow a b = slice_cmp nat_cmp a.match_name b.match_name ≡ ordering.Less
@@ -26,10 +27,10 @@ below_not a b p q =
     cc
 
 -- two matches of the same name with their sheets and findings are the same
-part_same : (feeds : List FeedPart) (a b : MatchPart) → a.match_name ≡ b.match_name → IsSheetOf feeds a.match_name a.sheet → IsSheetOf feeds b.match_name b.sheet
+part_same : (feeds : List FeedPart) (a b : MatchPart) → a.match_name ≡ b.match_name → IsSheetOf (rules_of feeds) (lines_of feeds) a.match_name a.sheet → IsSheetOf (rules_of feeds) (lines_of feeds) b.match_name b.sheet
     → IsFirstFinding a.sheet a.finding → IsFirstFinding b.sheet b.finding → a ≡ b
 part_same feeds a b e p q f g =
-    let sheets : a.sheet ≡ b.sheet = one_sheet feeds b.match_name a.sheet b.sheet (subst (λ (n : List ℕ). IsSheetOf feeds n a.sheet) e p) q in
+    let sheets : a.sheet ≡ b.sheet = one_sheet (rules_of feeds) (lines_of feeds) b.match_name a.sheet b.sheet (subst (λ (n : List ℕ). IsSheetOf (rules_of feeds) (lines_of feeds) n a.sheet) e p) q in
     let found : a.finding ≡ b.finding = finding_is_one b.sheet a.finding b.finding (subst (λ (s : List Offer). IsFirstFinding s a.finding) sheets f) g in
     let N : List ℕ → MatchPart = λ x. record { match_name = x; sheet = a.sheet; finding = a.finding } in
     let S : List Offer → MatchPart = λ x. record { match_name = b.match_name; sheet = x; finding = a.finding } in
@@ -39,7 +40,7 @@ part_same feeds a b e p q f g =
 in_other : (feeds : List FeedPart) (xs ys : List MatchPart) → AreFoundMatches feeds xs → AreFoundMatches feeds ys → (z : MatchPart) → IsIn z xs → IsIn z ys
 in_other feeds xs ys p q z i =
     let IsQuotedPart : MatchPart → Type 0 = λ part. IsQuoted feeds part.match_name in
-    let HasSheet : MatchPart → Type 0 = λ part. IsSheetOf feeds part.match_name part.sheet in
+    let HasSheet : MatchPart → Type 0 = λ part. IsSheetOf (rules_of feeds) (lines_of feeds) part.match_name part.sheet in
     let HasFinding : MatchPart → Type 0 = λ part. IsFirstFinding part.sheet part.finding in
     let quoted : IsQuoted feeds z.match_name = all_at IsQuotedPart xs z p.quoted.only i in
     let found = any_in (λ part. part.match_name ≡ z.match_name) ys (q.quoted.quoted z.match_name quoted) in
@@ -59,4 +60,4 @@ pub one_report : (feeds : List FeedPart) (report other : List ℕ) → IsReport 
 one_report feeds report other p q =
     let found : AreFoundMatches feeds p.matches = record { quoted = p.quoted; found = p.found } in
     let others : AreFoundMatches feeds q.matches = record { quoted = q.quoted; found = q.found } in
-    one_text default_pivots feeds report other (p.matches, found, p.text) (q.matches, others, q.text)
+    one_text DEFAULT_PIVOTS feeds report other (p.matches, found, p.text) (q.matches, others, q.text)

@@ -12,8 +12,8 @@ use Rattle.scan_types.specs.declared.selection.Selection.{Selection}
 use Rattle.scan_types.specs.declared.selection.Selection.TheVariants.{Home, Draw, Away, HandicapHome, HandicapAway, Over, Under}
 use Rattle.scan_types.specs.declared.outcome.Outcome.{Outcome}
 use Rattle.scan_types.specs.declared.outcome.Outcome.TheVariants.{Full}
+use Rattle.scan_types.specs.Selections.{IsOnResult}
 use Rattle.scan_types.specs.declared.limits.TheConstants.{MOST_PART, MOST_SCORE}
-use Rattle.settlement_definitions.specs.Laws.{IsOnResult}
 use Rattle.settlement_definitions.specs.Gain.{gain}
 use Rattle.settlement_definitions.specs.Scores.{HasScoresInRange}
 use Rattle.finding_definitions.specs.Measure.{mean, IsPriceMeasure}

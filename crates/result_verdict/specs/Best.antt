@@ -4,7 +4,7 @@ use Rattle.scan_types.specs.declared.offer.Offer.{Offer}
 use Rattle.scan_types.specs.declared.selection.Selection.{Selection}
 use Rattle.scan_types.specs.declared.selection.Selection.TheVariants.{Home, Draw, Away}
 use Rattle.scan_types.specs.declared.rule.VoidRule.TheVariants.{Void}
-use Rattle.settlement_definitions.specs.Laws.{IsOnResult}
+use Rattle.scan_types.specs.Selections.{IsOnResult}
 use Rattle.result_verdict.specs.declared.best.Best.{Best}
 use Rattle.result_verdict.specs.declared.best.Trio.{Trio}
 

@@ -1,5 +1,5 @@
 ghost use Rattle.std.specs.Prelude.{◌≡◌, ◌≤◌, ◌<◌, IfSome, IfNone, IsTrue, ◌↔◌};
-ghost use Rattle.settlement_definitions.specs.Laws.{IsOnResult};
+ghost use Rattle.scan_types.specs.Selections.{IsOnResult};
 ghost use Rattle.result_verdict.specs.Best.{IsBest, IsUnbacked, Improves};
 
 use scan_types::{Offer, Selection};

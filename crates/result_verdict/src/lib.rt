@@ -2,7 +2,6 @@
 //! match is abandoned.
 //!
 //! - `First`: what is found of a sheet.
-//! - `stakes`, `measure`: the two kinds of certificate, whole stakes and weights on outcomes.
 //! - `best`: the offer of greatest odds on each result.
 //! - `weights`, `divisor`: the weights of the three results, in lowest terms.
 //! - `floors`: the stakes that return the same at each result, rounded down to whole units.
@@ -17,13 +16,10 @@ mod best;
 mod divisor;
 mod floors;
 pub mod laws;
-mod measure;
-mod stakes;
 mod verdict;
 mod weights;
 
-pub use measure::Measure;
-pub use stakes::Stakes;
+use finding_definitions::{Measure, Stakes};
 pub use verdict::{first_finding, is_result_sheet};
 
 /// What is found of a sheet of bets on the result.

@@ -5,8 +5,8 @@ ghost use Rattle.result_verdict.specs.Findings.{IsFirstFinding, IsRightFirst};
 use crate::First;
 use crate::best::{Trio, best_on};
 use crate::floors::Floors;
-use crate::stakes::Stakes;
 use crate::weights::{is_underround, sure, weighing};
+use finding_definitions::Stakes;
 use scan_types::{Offer, Outcome, Selection, Sheet, VoidRule, WantOfMemory};
 use std::alloc::Global;
 

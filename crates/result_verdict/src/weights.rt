@@ -3,7 +3,7 @@ ghost use Rattle.result_verdict.specs.Weights.{home_weight, draw_weight, away_we
 
 use crate::best::Trio;
 use crate::divisor::gcd_of_three;
-use crate::measure::Measure;
+use finding_definitions::Measure;
 use scan_types::{Outcome, WantOfMemory};
 use std::alloc::Global;
 

@@ -2,7 +2,7 @@
 use Rattle.std.proofs.Common.{◌≡◌, ℕ, ◌<◌, ◌≤◌, Bool, true, false, cond, ◌&&◌, List, Vec, Global, [], ◌∷◌, length, take, map, Option, Some, None, Result, Ok, Err, refl, sym, ap, subst, arith, inl, inr, MatchResult, IfOk}
 use Rattle.std.specs.Io.KnownBytes.{Keeps}
 use Rattle.std.proofs.KnownBytes.{Keeps-refl}
-use Rattle.scan_types.specs.declared.memory.WantOfMemory.{WantOfMemory}
+use Rattle.want_of_memory.specs.declared.memory.WantOfMemory.{WantOfMemory}
 use Rattle.report_definitions.specs.declared.read_feed.ReadFeed.{ReadFeed}
 use Rattle.report_definitions.specs.Standing.{feed_part}
 use Rattle.scan_desk.specs.declared.feed_end.FeedEnd.{FeedEnd}

@@ -5,10 +5,7 @@ use Rattle.std.specs.Io.KnownBytes.{Appends, Keeps}
 use Rattle.desk_io.specs.Faults.{Rose}
 use Rattle.desk_io.specs.Opener.{Told}
 use Rattle.desk_io.specs.Sink.{AppendsPrefix}
-use Rattle.report_definitions.specs.declared.match_part.MatchPart.{MatchPart}
-use Rattle.report_definitions.specs.Standing.{FeedPart}
-use Rattle.report_definitions.specs.Report.{report_text, AreMatchesOf}
-use Rattle.result_verdict.specs.Findings.{IsFirstFinding, IsRightFirst}
+use Rattle.report_definitions.specs.Report.{IsReport}
 use Rattle.scan_desk.specs.declared.feed_end.FeedEnd.{FeedEnd}
 use Rattle.scan_desk.specs.declared.feed_end.FeedStop.{FeedStop}
 use Rattle.scan_desk.specs.declared.feed_end.FeedStop.TheVariants as stops
@@ -17,19 +14,6 @@ use Rattle.scan_desk.specs.Texts.{no_command, cannot_be_opened, cannot_be_read, 
 use Rattle.scan_desk.specs.Told.{told_bytes, HasSources, LacksSource}
 use Rattle.scan_desk.specs.Feeds.{part_of}
 use Rattle.scan_desk.specs.Readings.{AreReadSo, StopsAtLast}
-
--- the budget that a report names; no finding of this stage comes from pivots
-abbrev pub default_pivots : ℕ
-default_pivots = 4096
-
--- the report of these feeds: each match that a feed quoted has the sheet of what stands on it and the finding of that sheet,
--- and each verdict is right at every final score and every abandonment
-pub record IsReport (feeds : List FeedPart) (report : List ℕ) : Type 0 where
-  pub matches : List MatchPart
-  pub quoted : AreMatchesOf feeds matches
-  pub found : All (λ part. IsFirstFinding part.sheet part.finding) matches
-  pub right : All (λ part. IsRightFirst part.sheet part.finding) matches
-  pub text : report ≡ report_text default_pivots feeds matches
 
 -- what a run sees of its opener: what it tells of its sources before, its promise that an opening fails only under a name that has
 -- no source left, and its counts of failed openings before and after

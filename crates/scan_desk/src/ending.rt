@@ -4,7 +4,8 @@ ghost use Rattle.std.specs.Prelude.{ℕ, ◌≡◌, ◌<◌, ◌≤◌, List, ma
 ghost use Rattle.report_definitions.specs.Standing.{feed_part};
 ghost use Rattle.match_sheets.specs.Plain.{ArePlain};
 ghost use Rattle.scan_desk.specs.Feeds.{part_of};
-ghost use Rattle.scan_desk.specs.Desk.{IsReport, IsDueAfter};
+ghost use Rattle.report_definitions.specs.Report.{IsReport};
+ghost use Rattle.scan_desk.specs.Desk.{IsDueAfter};
 
 use crate::feed_end::{FeedEnd, FeedStop};
 use crate::status::{DONE, NOT_BUILT, NOT_READ, WANT_OF_MEMORY};
@@ -12,11 +13,8 @@ use crate::texts::{cannot_be_read, is_not_built};
 use arb_report::report_text;
 use match_sheets::matches_of;
 use report_definitions::ReadFeed;
-use scan_types::WantOfMemory;
+use scan_types::{DEFAULT_PIVOTS, WantOfMemory};
 use std::alloc::Global;
-
-/// The budget that a report names; no finding of this stage comes from pivots.
-const DEFAULT_PIVOTS: u32 = 4096;
 
 /// The report of feeds that were read to their ends.
 fn report(alloc: Global, feeds: &[ReadFeed]) -> Result<Vec<u8>, WantOfMemory>

@@ -4,3 +4,4 @@ pub mod NameView
 pub mod Selections
 pub mod Offers
 pub mod Sheets
+pub mod Laws

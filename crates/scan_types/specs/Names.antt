@@ -18,7 +18,7 @@ IsMark b = (b ≡ 95) ⊎ ((b ≡ 45) ⊎ (b ≡ 46))
 abbrev pub IsNameByte : ℕ → Type 0
 IsNameByte b = IsLetter b ⊎ (IsDigit b ⊎ IsMark b)
 
--- the text of a name: 1 to 32 such bytes
+-- the text of a name: 1 to MOST_NAME_BYTES such bytes
 pub record IsNameText (text : List ℕ) : Type 0 where
   pub some : 1 ≤ length text
   pub few : length text ≤ MOST_NAME_BYTES

@@ -1,9 +1,9 @@
-use Rattle.std.specs.Prelude.{ℕ, ℤ, pos, negsuc, ◌≤◌, ◌≤ℤ◌}
-use Rattle.scan_types.specs.declared.limits.TheConstants.{MOST_LIMIT}
+use Rattle.std.specs.Prelude.{ℕ, ℤ, pos, negsuc, ◌<◌, ◌≤◌, ◌≤ℤ◌}
+use Rattle.scan_types.specs.declared.limits.TheConstants.{MOST_LIMIT, LEAST_ODDS, MOST_ODDS, MOST_FEEDS}
 
 -- odds from 1.001 to 1000.000, in thousandths
 abbrev pub IsOddsRange : ℕ → Type 0
-IsOddsRange n = (1001 ≤ n) × (n ≤ 1000000)
+IsOddsRange n = (LEAST_ODDS ≤ n) × (n ≤ MOST_ODDS)
 
 -- a handicap line from -5.00 to 5.00, in quarters of a goal
 abbrev pub IsHandicapRange : ℤ → Type 0
@@ -17,6 +17,6 @@ IsTotalRange q = (pos 2 ≤ℤ q) × (q ≤ℤ pos 30)
 abbrev pub IsLimitRange : ℕ → Type 0
 IsLimitRange n = (1 ≤ n) × (n ≤ MOST_LIMIT)
 
--- one of at most eight feeds, counted from 0
+-- the number of a feed, counted from 0
 abbrev pub IsFeedNumber : ℕ → Type 0
-IsFeedNumber n = n ≤ 7
+IsFeedNumber n = n < MOST_FEEDS

@@ -12,3 +12,23 @@ selection_number (HandicapHome line) = 3 + unsigned_abs (line.quarters +ℤ pos 
 selection_number (HandicapAway line) = 44 + unsigned_abs (line.quarters +ℤ pos 20)
 selection_number (Over line) = 85 + (line.quarters - 2)
 selection_number (Under line) = 114 + (line.quarters - 2)
+
+-- a bet on the result of the match
+abbrev pub IsOnResult : Selection → Type 0
+IsOnResult Home = Unit {0}
+IsOnResult Draw = Unit {0}
+IsOnResult Away = Unit {0}
+IsOnResult (HandicapHome _) = ⊥
+IsOnResult (HandicapAway _) = ⊥
+IsOnResult (Over _) = ⊥
+IsOnResult (Under _) = ⊥
+
+-- a bet on the total goals
+abbrev pub IsOnTotal : Selection → Type 0
+IsOnTotal Home = ⊥
+IsOnTotal Draw = ⊥
+IsOnTotal Away = ⊥
+IsOnTotal (HandicapHome _) = ⊥
+IsOnTotal (HandicapAway _) = ⊥
+IsOnTotal (Over _) = Unit {0}
+IsOnTotal (Under _) = Unit {0}

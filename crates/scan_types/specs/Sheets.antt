@@ -3,12 +3,12 @@ use Rattle.scan_types.specs.declared.offer.Offer.{Offer}
 use Rattle.scan_types.specs.declared.limits.TheConstants.{MOST_OFFERS}
 use Rattle.scan_types.specs.Offers.{IsBelow}
 
--- at most 256 offers, strictly rising by feed and selection number
+-- at most MOST_OFFERS offers, strictly rising by feed and selection number
 pub record IsSheet (offers : List Offer) : Type 0 where
   pub few : length offers ≤ MOST_OFFERS
   pub rising : AllPairs IsBelow offers
 
--- fewer than 256 offers stand, and the offer comes after the last of them
+-- there are fewer than MOST_OFFERS offers, and the offer comes after the last of them
 pub record Fits (offers : List Offer) (offer : Offer) : Type 0 where
   pub room : length offers < MOST_OFFERS
   pub above : IfSome (slice_get offers (length offers - 1)) (λ last. IsBelow last offer)

@@ -5,13 +5,14 @@
 //! - `selection`: what is backed, and the order of selections.
 //! - `rule`, `outcome`: how a book settles an abandoned match, and how a match ends.
 //! - `offer`, `sheet`: one book's offer, and all offers on one match in their order.
-//! - `place`, `memory`: a place in a text, and the one fault of a call that takes memory.
-//! - `limits`: the largest sizes.
+//! - `place`: a place in a text.
+//! - `limits`: the largest sizes, each with its reason.
+//! - `laws`: a selection is known by its number, and selections are ordered by it.
 #![tactic(auto)]
 
+pub mod laws;
 pub mod limits;
 mod line;
-mod memory;
 mod name;
 mod odds;
 mod offer;
@@ -22,11 +23,12 @@ mod selection;
 mod sheet;
 
 pub use limits::{
-    MOST_FEEDS, MOST_LIMIT, MOST_MEASURE_ENTRIES, MOST_NAME_BYTES, MOST_OFFERS, MOST_PART,
-    MOST_SCORE, MOST_STANDING,
+    DEFAULT_PIVOTS, DEFAULT_SOLVERS, LEAST_ODDS, MOST_FEED_BYTES, MOST_FEEDS, MOST_LIMIT,
+    MOST_LINE_BYTES, MOST_LINES, MOST_MATCHES, MOST_MEASURE_ENTRIES, MOST_NAME_BYTES, MOST_ODDS,
+    MOST_OFFERS, MOST_PART, MOST_PIVOTS, MOST_REPORT_BYTES, MOST_REPORT_LINE_BYTES, MOST_SCORE,
+    MOST_SELECTIONS, MOST_SOLVERS, MOST_STANDING,
 };
 pub use line::{HandicapLine, TotalLine};
-pub use memory::WantOfMemory;
 pub use name::Name;
 pub use odds::Odds;
 pub use offer::Offer;
@@ -35,6 +37,7 @@ pub use place::Place;
 pub use rule::VoidRule;
 pub use selection::Selection;
 pub use sheet::Sheet;
+pub use want_of_memory::WantOfMemory;
 
 #[cfg(test)]
 mod tests;

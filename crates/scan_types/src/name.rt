@@ -6,7 +6,7 @@ use std::cmp::Ordering;
 use std::hash::{Hash, Hasher};
 use std::marker::Model;
 
-/// A book's or a match's name: 1 to 32 bytes out of letters, digits, `_`, `-` and `.`.
+/// A book's or a match's name: 1 to `MOST_NAME_BYTES` bytes out of letters, digits, `_`, `-` and `.`.
 ///
 /// Names are ordered by their bytes.
 #[derive(Clone, Copy, Debug)]
@@ -58,7 +58,7 @@ fn is_name_byte(byte: u8) -> bool
 }
 
 impl Name {
-    /// The name of this text, or `None` where the text is no name.
+    /// The name of this text, or `None` if the text is not a name.
     pub fn read(text: &[u8]) -> Option<Name>
         ensures value { IfSome result (λ name. name ≡ text.now) }
         ensures form { IsSome result ↔ IsNameText text.now }

@@ -1,4 +1,5 @@
-ghost use Rattle.std.specs.Prelude.{◌≡◌, ◌≤◌, IfSome, IsSome, IsTrue, ◌↔◌};
+ghost use Rattle.std.specs.Prelude.{◌≡◌, ◌<◌, ◌≤◌, IfSome, IsSome, IsTrue, ◌↔◌};
+ghost use Rattle.scan_types.specs.declared.limits.TheConstants.{MOST_FEEDS, MOST_LIMIT};
 
 use crate::limits::{MOST_FEEDS, MOST_LIMIT};
 use crate::odds::Odds;
@@ -8,27 +9,27 @@ use crate::selection::Selection;
 /// One book's offer on one match: up to `limit` minor units may be staked at `odds`.
 #[derive(Clone, Copy, Debug, PartialEq, Eq, Hash)]
 pub struct Offer {
-    /// The number of the feed, 0 to 7.
+    /// The number of the feed, from 0 and below `MOST_FEEDS`.
     pub feed: u8,
     /// What a bet backs.
     pub selection: Selection,
     /// The odds of a bet.
     pub odds: Odds,
-    /// The largest stake, 1 to 100,000,000 minor units.
+    /// The largest stake, 1 to `MOST_LIMIT` minor units.
     pub limit: u32,
-    /// How bets are settled where the match is abandoned.
+    /// How bets are settled if the match is abandoned.
     pub rule: VoidRule,
-    ghost feed_at_most: { feed ≤ 7 },
+    ghost feed_at_most: { feed < MOST_FEEDS },
     ghost limit_at_least: { 1 ≤ limit },
-    ghost limit_at_most: { limit ≤ 100000000 },
+    ghost limit_at_most: { limit ≤ MOST_LIMIT },
 }
 
 impl Offer {
     ghost use Rattle.scan_types.specs.Ranges.{IsFeedNumber, IsLimitRange};
     ghost use Rattle.scan_types.specs.Offers.{HasTerms, IsBelow};
 
-    /// The offer with these terms, or `None` where the feed is above 7 or the limit outside 1 to
-    /// 100,000,000.
+    /// The offer with these terms, or `None` if the feed is not below `MOST_FEEDS` or the limit is outside 1 to
+    /// `MOST_LIMIT`.
     pub fn new(
         feed: u8,
         selection: Selection,

@@ -1,7 +1,8 @@
+use crate::limits::MOST_SELECTIONS;
 use crate::line::{HandicapLine, TotalLine};
 
 /// What a bet backs. Handicap lines are seen from the home side, for the away bet too.
-#[derive(Clone, Copy, Debug, PartialEq, Eq, Hash)]
+#[derive(Clone, Copy, Debug, PartialEq, Eq, PartialOrd, Ord, Hash)]
 pub enum Selection {
     /// The home side has more goals.
     Home,
@@ -20,14 +21,14 @@ pub enum Selection {
 }
 
 impl Selection {
-    ghost use Rattle.std.specs.Prelude.{◌≡◌, ◌≤◌};
+    ghost use Rattle.std.specs.Prelude.{◌≡◌, ◌<◌};
     ghost use Rattle.scan_types.specs.Selections.{selection_number};
 
     /// The place of the selection in the order of selections, 0 to 142: the variants in their order,
     /// and within a variant the line rising.
     pub fn number(self) -> u8
         ensures value { result ≡ selection_number self }
-        ensures bound { result ≤ 142 }
+        ensures bound { result < MOST_SELECTIONS }
     {
         match self {
             Selection::Home => 0,

@@ -2,12 +2,12 @@ ghost use Rattle.std.specs.Prelude.{◌≡◌, [], ◌∷◌, ◌++◌, IsTrue, 
 ghost use Rattle.scan_types.specs.Sheets.{IsSheet, Fits};
 
 use crate::limits::MOST_OFFERS;
-use crate::memory::WantOfMemory;
 use crate::offer::Offer;
 use std::alloc::Global;
 use std::marker::Model;
+use want_of_memory::WantOfMemory;
 
-/// The offers on one match: at most 256, strictly rising by feed and selection number.
+/// The offers on one match: at most `MOST_OFFERS`, strictly rising by feed and selection number.
 #[derive(Debug, Drop)]
 pub struct Sheet {
     offers: Vec<Offer>,
@@ -35,7 +35,7 @@ impl Sheet {
         }
     }
 
-    /// Whether the offer can be pushed: fewer than 256 offers stand, and it comes after the last.
+    /// Whether the offer can be pushed: there are fewer than `MOST_OFFERS`, and it comes after the last.
     pub fn fits(&self, offer: &Offer) -> bool
         ensures { IsTrue result ↔ Fits self.now offer.now }
     {
@@ -48,7 +48,7 @@ impl Sheet {
         }
     }
 
-    /// Appends an offer that fits. After want of memory the sheet is as before.
+    /// Appends an offer that fits. If no memory is left, the sheet is as before.
     pub fn push(&mut self, offer: Offer) -> Result<(), WantOfMemory>
         requires { Fits self.old offer }
         ensures ok { OnOk result (self.new ≡ self.old ++ offer ∷ []) }

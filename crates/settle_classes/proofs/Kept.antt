@@ -10,11 +10,11 @@ use Rattle.scan_types.specs.declared.offer.Offer.{Offer}
 use Rattle.scan_types.specs.declared.outcome.Outcome.{Outcome}
 use Rattle.settlement_definitions.specs.Gain.{gain}
 use Rattle.settle_classes.specs.declared.row.Row.{Row}
-use Rattle.settle_classes.specs.StandIns.{is_final, stand_ins}
-use Rattle.settle_classes.specs.Classes.{same_bool, settle_alike, distinct_by}
+use Rattle.settlement_definitions.specs.StandIns.{is_final, stand_ins}
+use Rattle.settlement_definitions.specs.Classes.{same_bool, settle_alike, distinct_by}
 use Rattle.settle_classes.specs.Rows.{parts_of, settlement_of, same_settlement}
-use Rattle.settle_classes.proofs.Alike.{settle_alike-trans}
-use Rattle.settle_classes.proofs.Distinct.{distinct_by-push}
+use Rattle.settlement_laws.proofs.Alike.{settle_alike-trans}
+use Rattle.settlement_laws.proofs.Distinct.{distinct_by-push}
 
 list_any-map : {X Y : Type 0} (test : Y → Bool) (f : X → Y) (xs : List X) → list_any test (map f xs) ≡ list_any (λ x. test (f x)) xs
 list_any-map test f [] = refl

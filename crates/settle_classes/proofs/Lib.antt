@@ -1,6 +1,1 @@
-pub mod Table
-pub mod Cover
-pub mod Sums
-pub mod Distinct
-pub mod Alike
 pub mod Kept

@@ -5,8 +5,8 @@ use Rattle.scan_types.specs.declared.offer.Offer.{Offer}
 use Rattle.scan_types.specs.declared.outcome.Outcome.{Outcome}
 use Rattle.settlement_definitions.specs.Gain.{gain}
 use Rattle.settle_classes.specs.declared.row.Row.{Row}
-use Rattle.settle_classes.specs.StandIns.{is_final}
-use Rattle.settle_classes.specs.Classes.{same_bool}
+use Rattle.settlement_definitions.specs.StandIns.{is_final}
+use Rattle.settlement_definitions.specs.Classes.{same_bool}
 
 -- what a row holds
 abbrev pub parts_of : Row → Bool × List ℤ

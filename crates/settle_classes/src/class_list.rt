@@ -1,5 +1,5 @@
 ghost use Rattle.std.specs.Prelude.{◌≡◌, IfOk};
-ghost use Rattle.settle_classes.specs.Classes.{classes_of};
+ghost use Rattle.settlement_definitions.specs.Classes.{classes_of};
 
 use crate::row::{is_kept, settlement};
 use crate::stand_ins::{STAND_INS, stand_in};

@@ -6,11 +6,11 @@
 //!
 //! - `stand_in`: the stand-ins by number. `stand_for`: the one that stands for an outcome.
 //! - `classes`: the stand-ins of a sheet that settle unlike all before them.
-//! - `laws`: what holds at each of the 98 holds at every outcome.
+//!
+//! `settlement_laws` shows that what holds at each of them holds at every outcome.
 #![tactic(auto)]
 
 mod class_list;
-pub mod laws;
 mod row;
 mod stand_ins;
 

@@ -1,7 +1,7 @@
 ghost use Rattle.std.specs.List.{list_any};
 ghost use Rattle.std.specs.Prelude.{◌≡◌, IfOk, map};
 ghost use Rattle.settle_classes.specs.Rows.{parts_of, same_settlement};
-ghost use Rattle.settle_classes.specs.StandIns.{is_final};
+ghost use Rattle.settlement_definitions.specs.StandIns.{is_final};
 ghost use Rattle.settlement_definitions.specs.Gain.{gain};
 ghost use Rattle.settlement_definitions.specs.Scores.{HasScoresInRange};
 

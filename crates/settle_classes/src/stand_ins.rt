@@ -1,6 +1,6 @@
 ghost use Rattle.std.specs.Prelude.{◌≡◌, ◌<◌, ◌≤◌, slice_get};
-ghost use Rattle.settle_classes.specs.StandIns.{is_final, lead_step, stand_score, stand_scores, stand_ins};
-ghost use Rattle.settle_classes.specs.StandIns.{stand_for as stand_for_outcome};
+ghost use Rattle.settlement_definitions.specs.StandIns.{is_final, lead_step, stand_score, stand_scores, stand_ins};
+ghost use Rattle.settlement_definitions.specs.StandIns.{stand_for as stand_for_outcome};
 ghost use Rattle.scan_types.specs.declared.offer.Offer.{Offer};
 ghost use Rattle.settlement_definitions.specs.Gain.{gain};
 ghost use Rattle.settlement_definitions.specs.Scores.{HasScoresInRange};

@@ -11,7 +11,7 @@ use Rattle.settlement_definitions.specs.declared.leg_result.LegResult.TheVariant
 use Rattle.settlement_definitions.specs.Legs.{legs_of, leg_result, win_if}
 use Rattle.settlement_definitions.specs.Abandonment.{leg_at}
 use Rattle.settlement_definitions.specs.Gain.{gain, leg_gain}
-use Rattle.settlement_definitions.specs.Laws.{IsOnResult}
+use Rattle.scan_types.specs.Selections.{IsOnResult}
 
 -- where both legs go alike, the gain is the same
 pub gain-same_legs : (offer : Offer) (x y : Outcome) → ((leg : ℤ) → leg_at offer.rule offer.selection leg x ≡ leg_at offer.rule offer.selection leg y) → gain offer x ≡ gain offer y

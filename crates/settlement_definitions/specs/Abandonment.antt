@@ -19,12 +19,12 @@ decision selection leg h a =
       | false ↦ λ e. inr (undecided_else selection leg h a e)
     ] refl
 
--- the result that every later score gives, or a push where later scores differ
+-- the result that every later score gives, or a push if later scores differ
 abbrev pub decided_result : (selection : Selection) (leg : ℤ) (h a : ℕ) → Decision selection leg h a → LegResult
 decided_result selection leg h a (inl decided) = decided.0
 decided_result selection leg h a (inr _) = Push
 
--- how a leg goes where the match is abandoned: `void` gives the stake back, `score` settles on the
+-- how a leg goes if the match is abandoned: `void` gives the stake back, `score` settles on the
 -- score at abandonment, and under `decided` what no later score can change stands
 abbrev pub leg_at_abandonment : VoidRule → Selection → ℤ → ℕ → ℕ → LegResult
 leg_at_abandonment Void selection leg h a = Push

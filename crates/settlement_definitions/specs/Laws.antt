@@ -1,6 +1,6 @@
 use Rattle.std.specs.Prelude.{ℕ, ℤ, pos, negsuc, ◌≡◌, ◌<◌, ◌+◌, ◌*◌, ◌-ℤ◌, ◌*ℤ◌, ◌≤ℤ◌, ◌<ℤ◌, ◌↔◌, if◌then◌else◌}
 use Rattle.scan_types.specs.declared.selection.Selection.{Selection}
-use Rattle.scan_types.specs.declared.selection.Selection.TheVariants.{Home, Draw, Away, HandicapHome, HandicapAway, Over, Under}
+use Rattle.scan_types.specs.Selections.{IsOnResult, IsOnTotal}
 use Rattle.scan_types.specs.declared.rule.VoidRule.TheVariants.{Void, Decided}
 use Rattle.scan_types.specs.declared.outcome.Outcome.{Outcome}
 use Rattle.scan_types.specs.declared.outcome.Outcome.TheVariants.{Full, Abandoned}
@@ -12,33 +12,13 @@ use Rattle.settlement_definitions.specs.Decided.{IsDecided, exceeds_line}
 use Rattle.settlement_definitions.specs.Abandonment.{leg_at}
 use Rattle.settlement_definitions.specs.Gain.{gain}
 
--- a bet on the result of the match
-abbrev pub IsOnResult : Selection → Type 0
-IsOnResult Home = Unit {0}
-IsOnResult Draw = Unit {0}
-IsOnResult Away = Unit {0}
-IsOnResult (HandicapHome _) = ⊥
-IsOnResult (HandicapAway _) = ⊥
-IsOnResult (Over _) = ⊥
-IsOnResult (Under _) = ⊥
-
--- a bet on the total goals
-abbrev pub IsOnTotal : Selection → Type 0
-IsOnTotal Home = ⊥
-IsOnTotal Draw = ⊥
-IsOnTotal Away = ⊥
-IsOnTotal (HandicapHome _) = ⊥
-IsOnTotal (HandicapAway _) = ⊥
-IsOnTotal (Over _) = Unit {0}
-IsOnTotal (Under _) = Unit {0}
-
 -- a bet on the result gains at every final score what it gains at 1-0, 0-0 or 0-1
 abbrev pub ResultByDifference : Type 0
 ResultByDifference =
     (offer : Offer) (h a : ℕ) → IsOnResult offer.selection
     → (a < h → gain offer (Full h a) ≡ gain offer (Full 1 0)) × (h ≡ a → gain offer (Full h a) ≡ gain offer (Full 0 0)) × (h < a → gain offer (Full h a) ≡ gain offer (Full 0 1))
 
--- a `void` book gives all stakes back where the match is abandoned
+-- a `void` book gives all stakes back if the match is abandoned
 abbrev pub VoidGivesBack : Type 0
 VoidGivesBack = (offer : Offer) (h a : ℕ) → offer.rule ≡ Void → gain offer (Abandoned h a) ≡ pos 0
 
@@ -47,7 +27,7 @@ abbrev pub DecidedStands : Type 0
 DecidedStands =
     (selection : Selection) (leg : ℤ) (h a : ℕ) (r : LegResult) → IsDecided selection leg h a r → leg_at Decided selection leg (Abandoned h a) ≡ r
 
--- and is a push where later scores differ
+-- and is a push if later scores differ
 abbrev pub UndecidedPushes : Type 0
 UndecidedPushes =
     (selection : Selection) (leg : ℤ) (h a : ℕ) → ((r : LegResult) → IsDecided selection leg h a r → ⊥) → leg_at Decided selection leg (Abandoned h a) ≡ Push

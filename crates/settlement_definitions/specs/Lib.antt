@@ -5,4 +5,6 @@ pub mod LaterGoals
 pub mod Abandonment
 pub mod Gain
 pub mod Scores
+pub mod StandIns
+pub mod Classes
 pub mod Laws

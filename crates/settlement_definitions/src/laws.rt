@@ -5,12 +5,12 @@ pub fn results_go_by_difference()
     ensures { ResultByDifference }
 {}
 
-/// A `void` book gives all stakes back where the match is abandoned.
+/// A `void` book gives all stakes back if the match is abandoned.
 pub fn void_gives_back()
     ensures { VoidGivesBack }
 {}
 
-/// Under `decided` a leg has the result that every later score gives it, and is a push where later
+/// Under `decided` a leg has the result that every later score gives it, and is a push if later
 /// scores differ.
 pub fn decided_means_every_later_score()
     ensures stands { DecidedStands }

@@ -7,10 +7,10 @@ use crate::plays::{Compare, Number, TakeIn};
 use crate::rule::{LockTable, TICKET};
 use crate::turn::Turn;
 use atomic_table::{Refused, Table};
-use scan_types::WantOfMemory;
 use std::alloc::Global;
 use std::snapshot::Snapshot;
 use std::sync::Wait;
+use want_of_memory::WantOfMemory;
 
 /// How many passes a lock can have in its life, the root among them.
 pub const MOST_PASSES: u16 = 256;

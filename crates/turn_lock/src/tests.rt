@@ -4,9 +4,9 @@ mod log;
 use crate::TurnLock;
 use calls::{add, eight_add, finds, two_add};
 use log::Log;
-use scan_types::WantOfMemory;
 use std::alloc::Global;
 use std::test::Fail;
+use want_of_memory::WantOfMemory;
 
 #[test]
 fn a_pass_finds_what_was_committed(rt: HostRuntime) -> Result<(), Fail> {

@@ -5,30 +5,16 @@ ghost use Rattle.std.specs.Prelude.{◌≡◌, ◌≤◌, ◌*◌, ◌^◌, ◌�
 ghost use Rattle.settlement_definitions.specs.Abandonment.{leg_at, leg_at_abandonment};
 ghost use Rattle.settlement_definitions.specs.Decided.{exceeds_line};
 ghost use Rattle.settlement_definitions.specs.Gain.{gain, leg_gain, paid, slack};
-ghost use Rattle.settlement_definitions.specs.Legs.{line_of};
 ghost use Rattle.settlement_definitions.specs.Scores.{HasScoresInRange};
 
 use market_rules::{LegResult, leg_result};
-use quarter_lines::legs;
-use scan_types::{Odds, Offer, Outcome, Selection, VoidRule};
-
-/// The line of a bet in quarters of a goal; a bet on the result has none.
-fn line_of(selection: Selection) -> i8
-    ensures line { result ≡ line_of selection }
-    ensures at_least { negsuc 19 ≤ℤ result }
-    ensures at_most { result ≤ℤ pos 30 }
-{
-    match selection {
-        Selection::Home | Selection::Draw | Selection::Away => 0,
-        Selection::HandicapHome(line) | Selection::HandicapAway(line) => line.quarters,
-        Selection::Over(line) | Selection::Under(line) => line.quarters as i8,
-    }
-}
+use quarter_lines::{legs, line_of};
+use scan_types::{MOST_ODDS, MOST_SCORE, Odds, Offer, Outcome, Selection, VoidRule};
 
 /// Whether the goals exceed the line of an over or under leg: then no later goal changes it.
 fn exceeds_line(selection: Selection, leg: i8, h: u64, a: u64) -> bool
-    requires home { h ≤ 2 ^ 40 }
-    requires away { a ≤ 2 ^ 40 }
+    requires home { h ≤ MOST_SCORE }
+    requires away { a ≤ MOST_SCORE }
     ensures { result ≡ exceeds_line selection leg h a }
 {
     match selection {
@@ -67,8 +53,8 @@ fn leg_gain(odds: Odds, settled: LegResult) -> i64
 
 /// How a leg goes under `decided`. The rule speaks of every later score; the goals tell what it says.
 fn decided_result(selection: Selection, leg: i8, h: u64, a: u64) -> LegResult
-    requires home { h ≤ 2 ^ 40 }
-    requires away { a ≤ 2 ^ 40 }
+    requires home { h ≤ MOST_SCORE }
+    requires away { a ≤ MOST_SCORE }
     ensures { result ≡ leg_at_abandonment VoidRule.Decided selection leg h a }
 {
     if exceeds_line(selection, leg, h, a) {
@@ -79,7 +65,7 @@ fn decided_result(selection: Selection, leg: i8, h: u64, a: u64) -> LegResult
 }
 
 /// What a bet gains at an outcome, in 1/2000 of its stake: half the stake is on each leg, and a leg
-/// gains the odds less 1000, 0 or -1000 as it wins, pushes or loses. Scores are at most 2^40.
+/// gains the odds less 1000, 0 or -1000 as it wins, pushes or loses. Scores are at most `MOST_SCORE`.
 ///
 /// Where the match is abandoned, as books publish it: `void` gives all stakes back, `score` settles on
 /// the score at abandonment, and `decided` lets each leg stand that no later goal can change and gives
@@ -103,7 +89,7 @@ pub fn gain(offer: &Offer, outcome: Outcome) -> i64
 }
 
 /// What comes back of a stake at an outcome, in minor units: stake and gain, rounded down once.
-/// Scores are at most 2^40.
+/// Scores are at most `MOST_SCORE`.
 pub fn paid(offer: &Offer, stake: u32, outcome: Outcome) -> u64
     requires { HasScoresInRange outcome }
     ensures exact { result ≡ paid offer.now stake outcome }
@@ -115,11 +101,11 @@ pub fn paid(offer: &Offer, stake: u32, outcome: Outcome) -> u64
 
 /// What rounding a stake down to whole minor units may cost at an outcome, in thousandths of a unit:
 /// the odds at a gain, 1000 where just one of two legs is lost and none won, else 0. Scores are at most
-/// 2^40.
+/// `MOST_SCORE`.
 pub fn slack(offer: &Offer, outcome: Outcome) -> u32
     requires { HasScoresInRange outcome }
     ensures exact { result ≡ slack offer.now outcome }
-    ensures at_most { result ≤ 1000000 }
+    ensures at_most { result ≤ MOST_ODDS }
 {
     let gained = gain(offer, outcome);
     if gained > 0 {

@@ -4,10 +4,10 @@ ghost use Rattle.turn_lock.specs.Passes.{known, IsPassOf};
 
 use super::log::Log;
 use crate::{Pass, TurnLock};
-use scan_types::WantOfMemory;
 use std::alloc::Global;
 use std::sync::Wait;
 use std::thread::{Threads, join};
+use want_of_memory::WantOfMemory;
 
 pub fn add<R: Wait>(
     rt: &R,

@@ -2,8 +2,8 @@
 ghost use Rattle.std.specs.Prelude.{◌≡◌, ◌++◌, ◌∷◌, [], OnOk, OnErr};
 
 use crate::Kept;
-use scan_types::WantOfMemory;
 use std::alloc::Global;
+use want_of_memory::WantOfMemory;
 
 #[derive(Drop)]
 pub struct Log {

@@ -1,12 +1,12 @@
 use Rattle.std.proofs.Common.{◌≡◌, ◌+◌, ◌<◌, ◌≤◌, List, length, map, get_or, refl, sym, ap, subst, ◌∙◌, arith}
 use Rattle.std.proofs.Math.ListN.{length-map}
-use Rattle.report_definitions.specs.Standing.{feed_part}
+use Rattle.report_definitions.specs.Standing.{feed_part, lines_of}
 use Rattle.feed_definitions.specs.declared.accepted.Accepted.{Accepted}
 use Rattle.feed_definitions.specs.Views.{line_text, change_text}
 use Rattle.feed_definitions.specs.Views.{IsResultQuote}
 use Rattle.match_sheets.specs.Plain.{IsPlainFeed}
 use Rattle.match_sheets.proofs.Results.{number_of_result}
-use Rattle.match_sheets.specs.Board.{lines_before, lines_of}
+use Rattle.match_sheets.specs.Board.{lines_before}
 use Rattle.match_sheets.proofs.Steps.{IsBoard-put}
 use Rattle.match_sheets.proofs.Turns.{lines_upto, GoesOn-line, board_same, upto_all, lines_read}
 use Rattle.match_sheets.proofs.board.add_feed.Goals as goal

@@ -2,9 +2,9 @@ use Rattle.std.proofs.Common.{◌≤◌, length, map, All, arith}
 use Rattle.std.proofs.lemmas.List.{length-map}
 use Rattle.std.proofs.lemmas.Result.{IfOk-weaker}
 use Rattle.report_definitions.specs.Report.{AreMatchesOf}
-use Rattle.report_definitions.specs.Standing.{feed_part}
+use Rattle.report_definitions.specs.Standing.{feed_part, lines_of}
 use Rattle.result_verdict.specs.Findings.{IsFirstFinding, IsRightFirst}
-use Rattle.match_sheets.specs.Board.{IsBoard, lines_of, lines_before}
+use Rattle.match_sheets.specs.Board.{IsBoard, lines_before}
 use Rattle.match_sheets.proofs.Turns.{board_same, before_all}
 use Rattle.match_sheets.proofs.Parts.{GoTogether, AreMatchesOf-from_board, findings_at, right_at, placed_on_board, plain_parts}
 use Rattle.match_sheets.proofs.matches.matches_of.Goals as goal

@@ -1,9 +1,9 @@
 use Rattle.std.proofs.Common.{◌≡◌, ◌≤◌, sym, ◌∙◌, ap, true, false, map}
 use Rattle.std.specs.List.{list_any}
-use Rattle.settle_classes.specs.StandIns.{is_final, stand_ins}
-use Rattle.settle_classes.specs.Classes.{settle_alike, distinct_by}
+use Rattle.settlement_definitions.specs.StandIns.{is_final, stand_ins}
+use Rattle.settlement_definitions.specs.Classes.{settle_alike, distinct_by}
 use Rattle.settle_classes.specs.Rows.{parts_of, settlement_of, same_settlement}
-use Rattle.settle_classes.proofs.Table.{take-stand_ins_all}
+use Rattle.settlement_laws.proofs.Table.{take-stand_ins_all}
 use Rattle.settle_classes.proofs.Kept.{found_by_row, kept_more, rows_more}
 use Rattle.settle_classes.proofs.class_list.classes.Goals as goal
 use Rattle.settle_classes.proofs.class_list.classes.Goals.{then-not-is_kept+in_ok-push+in_ok-push-2, else-not-is_kept}

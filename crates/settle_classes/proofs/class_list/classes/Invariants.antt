@@ -1,6 +1,6 @@
 use Rattle.std.proofs.Common.{◌≡◌, map, take}
-use Rattle.settle_classes.specs.StandIns.{stand_ins}
-use Rattle.settle_classes.specs.Classes.{settle_alike, distinct_by}
+use Rattle.settlement_definitions.specs.StandIns.{stand_ins}
+use Rattle.settlement_definitions.specs.Classes.{settle_alike, distinct_by}
 use Rattle.settle_classes.specs.Rows.{parts_of, settlement_of}
 use Rattle.settle_classes.proofs.class_list.classes.Given as goal
 

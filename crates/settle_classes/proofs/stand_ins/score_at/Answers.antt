@@ -1,5 +1,5 @@
-use Rattle.settle_classes.specs.StandIns.{stand_scores}
-use Rattle.settle_classes.proofs.Table.{slice_get-stand_scores, small_at}
+use Rattle.settlement_definitions.specs.StandIns.{stand_scores}
+use Rattle.settlement_laws.proofs.Table.{slice_get-stand_scores, small_at}
 use Rattle.settle_classes.proofs.stand_ins.score_at.Goals as goal
 
 pub returns-clause-numbered : goal.returns-clause-numbered

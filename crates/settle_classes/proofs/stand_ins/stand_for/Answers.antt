@@ -1,7 +1,7 @@
 use Rattle.std.proofs.Common.{◌∙◌, ap, sym}
 use Rattle.scan_types.specs.declared.outcome.Outcome.TheVariants.{Full, Abandoned}
 use Rattle.settlement_definitions.specs.Gain.{gain}
-use Rattle.settle_classes.proofs.Cover.{gain-stand_for}
+use Rattle.settlement_laws.proofs.Cover.{gain-stand_for}
 use Rattle.settle_classes.proofs.stand_ins.stand_for.Goals as goal
 
 pub returns-in-Full-clause-gains : goal.returns-in-Full-clause-gains

@@ -1,8 +1,8 @@
 use Rattle.std.proofs.Common.{◌≡◌, ◌+◌, ◌-◌, subst, arith}
 use Rattle.std.specs.Prelude.{slice_get, Some}
 use Rattle.scan_types.specs.declared.outcome.Outcome.TheVariants.{Abandoned}
-use Rattle.settle_classes.specs.StandIns.{stand_scores, stand_ins}
-use Rattle.settle_classes.proofs.Table.{stand_ins-final, stand_ins-abandoned}
+use Rattle.settlement_definitions.specs.StandIns.{stand_scores, stand_ins}
+use Rattle.settlement_laws.proofs.Table.{stand_ins-final, stand_ins-abandoned}
 use Rattle.settle_classes.proofs.stand_ins.stand_in.Goals as goal
 
 pub returns-then-k-lt49-clause-numbered : goal.returns-then-k-lt49-clause-numbered

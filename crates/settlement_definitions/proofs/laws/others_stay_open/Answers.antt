@@ -2,7 +2,7 @@ use Rattle.std.proofs.Common.{ℕ, ℤ, ◌≡◌, false, refl}
 use Rattle.scan_types.specs.declared.selection.Selection.{Selection}
 use Rattle.scan_types.specs.declared.selection.Selection.TheVariants.{Home, Draw, Away, HandicapHome, HandicapAway, Over, Under}
 use Rattle.settlement_definitions.specs.Decided.{exceeds_line}
-use Rattle.settlement_definitions.specs.Laws.{IsOnTotal}
+use Rattle.scan_types.specs.Selections.{IsOnTotal}
 use Rattle.settlement_definitions.specs.LaterGoals.{undecided_else}
 use Rattle.settlement_definitions.proofs.laws.others_stay_open.Goals as goal
 

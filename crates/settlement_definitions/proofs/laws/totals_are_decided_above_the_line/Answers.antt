@@ -6,7 +6,7 @@ use Rattle.scan_types.specs.declared.selection.Selection.TheVariants.{Home, Draw
 use Rattle.settlement_definitions.specs.declared.leg_result.LegResult.{LegResult}
 use Rattle.settlement_definitions.specs.Legs.{leg_result}
 use Rattle.settlement_definitions.specs.Decided.{IsDecided, exceeds_line}
-use Rattle.settlement_definitions.specs.Laws.{IsOnTotal}
+use Rattle.scan_types.specs.Selections.{IsOnTotal}
 use Rattle.settlement_definitions.specs.LaterGoals.{decided_above_line, undecided_else}
 use Rattle.settlement_definitions.proofs.laws.totals_are_decided_above_the_line.Goals as goal
 

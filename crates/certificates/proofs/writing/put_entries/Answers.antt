@@ -1,0 +1,25 @@
+use Rattle.std.proofs.Common.{ℕ, ◌≡◌, List, [], ◌∷◌, ◌++◌, ◌+◌, take, drop, length, refl, sym, ap, ◌∙◌, append_assoc, decimal}
+use Rattle.std.specs.Prelude.{Ok, codes}
+use Rattle.std.specs.List.{flat_map}
+use Rattle.std.proofs.lemmas.List.{append-nil}
+use Rattle.scan_types.specs.declared.outcome.Outcome.{Outcome}
+use Rattle.finding_definitions.specs.Text.{outcome_fields, entry_fields, stake_fields, measure_fields, fraction_fields, run_fields, place_fields, finding_fields, stage_number}
+use Rattle.certificates.specs.Written.{Wrote, spaced}
+use Rattle.certificates.proofs.Writes.{and_then, cut, same_text, nothing, join_spaced, spaced-append, spaced-flat_map, flat_map_take, flat_map_rest, flat_map_all, pair_shape, one_shape, numbers_shape, number_shape, counted_shape}
+use Rattle.certificates.proofs.writing.put_entries.Goals as goal
+
+pub loop-entry-init : goal.loop-entry-init
+loop-entry-init g c = nothing _ _ tt
+
+pub returns-in_err-put_entry : goal.returns-in_err-put_entry
+returns-in_err-put_entry g c =
+    let xs : List (Outcome × ℕ) = c.args.entries.now in
+    let i : ℕ = c.loop-entry.entry-index in
+    same_text (cut (and_then c.loop-entry.invariant c.in_err-put_entry.ensures) (flat_map (λ (entry : Outcome × ℕ). spaced (entry_fields entry)) (drop (i + 1) xs)) _ c.from_residual.ensures.0) _ (flat_map_rest (λ (entry : Outcome × ℕ). spaced (entry_fields entry)) xs i _ c.loop-entry-test.true)
+
+pub loop-entry-preserved : goal.loop-entry-preserved
+loop-entry-preserved g c =
+    same_text (and_then c.loop-entry.invariant c.in_ok-put_entry.ensures) _ (flat_map_take (λ (entry : Outcome × ℕ). spaced (entry_fields entry)) c.args.entries.now c.loop-entry.entry-index _ c.loop-entry-test.true)
+
+pub returns : goal.returns
+returns g c = same_text c.loop-entry.invariant _ (flat_map_all (λ (entry : Outcome × ℕ). spaced (entry_fields entry)) c.args.entries.now c.loop-entry.entry-index c.loop-entry-test.false)

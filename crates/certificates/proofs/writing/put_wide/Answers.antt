@@ -1,0 +1,17 @@
+use Rattle.std.proofs.Common.{ℕ, ◌≡◌, List, [], ◌∷◌, ◌++◌, ◌+◌, take, drop, length, refl, sym, ap, ◌∙◌, append_assoc, decimal}
+use Rattle.std.specs.Prelude.{Ok, codes}
+use Rattle.std.specs.List.{flat_map}
+use Rattle.std.proofs.lemmas.List.{append-nil}
+use Rattle.scan_types.specs.declared.outcome.Outcome.{Outcome}
+use Rattle.finding_definitions.specs.Text.{outcome_fields, entry_fields, stake_fields, measure_fields, fraction_fields, run_fields, place_fields, finding_fields, stage_number}
+use Rattle.certificates.specs.Written.{Wrote, spaced}
+use Rattle.certificates.proofs.Writes.{and_then, cut, same_text, nothing, join_spaced, spaced-append, spaced-flat_map, flat_map_take, flat_map_rest, flat_map_all, pair_shape, one_shape, numbers_shape, number_shape, counted_shape}
+use Rattle.certificates.proofs.writing.put_wide.Goals as goal
+
+pub returns-in_err-put_run : goal.returns-in_err-put_run
+returns-in_err-put_run g c =
+    same_text (cut c.in_err-put_run.ensures (spaced (place_fields c.args.place)) _ c.from_residual.ensures.0) _ (sym (spaced-append (run_fields c.args.stage c.args.pivots) (place_fields c.args.place)))
+
+pub returns : goal.returns
+returns g c =
+    same_text (and_then c.in_ok-put_run.ensures c.put_place.ensures) _ (sym (spaced-append (run_fields c.args.stage c.args.pivots) (place_fields c.args.place)))

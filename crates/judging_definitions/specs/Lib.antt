@@ -1,0 +1,6 @@
+pub mod Columns
+pub mod JudgingPrograms
+pub mod Stakes
+pub mod Readings
+pub mod ExactFinding
+pub mod Laws

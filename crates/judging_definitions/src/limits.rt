@@ -1,0 +1,5 @@
+//! The largest sizes in the reading of stakes.
+
+/// The largest common denominator of a direction, 2^120 - 1: far above any that a direction below 2^60 needs, and its
+/// product with a remainder below 2^7 still fits 127 bits.
+pub const MOST_COMMON_DENOMINATOR: u128 = 1_329_227_995_784_915_872_903_807_060_280_344_575;

@@ -1,0 +1,9 @@
+pub mod Table
+pub mod Cover
+pub mod Sums
+pub mod Distinct
+pub mod Alike
+pub mod AlikeSums
+pub mod FiveGains
+pub mod CanLose
+pub mod Roundings

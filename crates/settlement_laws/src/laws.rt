@@ -1,0 +1,58 @@
+ghost use Rattle.settlement_laws.specs.Laws.{StandInSettlesAlike, EachHasStandIn, NetAtEachOutcome, GainAtEachOutcome, EachHasClass};
+ghost use Rattle.settlement_laws.specs.Laws.{NinetyEightStandIns, FiveGains, EachBetCanLose, SlackCoversRounding};
+ghost use Rattle.settlement_laws.specs.Laws.{EqualNeeds, EqualNets, EqualGains, EqualSlacks, NetFromClasses, GainFromClasses, SlackFromClasses};
+
+/// A stand-in is of the kind of each outcome that it stands for, and gives each offer the same gain.
+/// Outcomes range over all whole scores.
+pub fn stand_in_settles_alike()
+    ensures alike { StandInSettlesAlike }
+    ensures among { EachHasStandIn }
+{}
+
+/// What stakes or parts win at each of the 98 stand-ins they win at every outcome.
+pub fn stand_ins_suffice()
+    ensures net { NetAtEachOutcome }
+    ensures gain { GainAtEachOutcome }
+{}
+
+/// Each outcome has a class of its kind that gives each offer of the sheet the same gain.
+pub fn each_has_class()
+    ensures { EachHasClass }
+{}
+
+/// Outcomes that settle a sheet alike have equal needs, and give equal sums of nets, of parts times
+/// gains and of slacks.
+pub fn alike_outcomes_have_equal_sums()
+    ensures needs { EqualNeeds }
+    ensures nets { EqualNets }
+    ensures gains { EqualGains }
+    ensures slacks { EqualSlacks }
+{}
+
+/// What stakes or parts win at each class of a sheet they win at every outcome, also a multiple of the
+/// need, with or without slack.
+pub fn classes_suffice()
+    ensures net { NetFromClasses }
+    ensures gain { GainFromClasses }
+    ensures slack { SlackFromClasses }
+{}
+
+/// There are 98 stand-ins.
+pub fn there_are_98_stand_ins()
+    ensures { NinetyEightStandIns }
+{}
+
+/// A bet is lost, half lost, given back, half won or won: the two legs of a bet never go opposite ways.
+pub fn a_bet_gains_one_of_five_amounts()
+    ensures { FiveGains }
+{}
+
+/// Every bet loses its whole stake at some final score.
+pub fn each_bet_can_lose()
+    ensures { EachBetCanLose }
+{}
+
+/// What slack is for: a fractional stake that is cut down to whole minor units wins at most its slack less.
+pub fn slack_covers_rounding()
+    ensures { SlackCoversRounding }
+{}
