@@ -4,3 +4,6 @@ pub mod Waits
 pub mod Holds
 pub mod Feeds
 pub mod Sound
+pub mod Stood
+pub mod Lists
+pub mod Picks

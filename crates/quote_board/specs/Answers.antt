@@ -1,5 +1,5 @@
 -- The answers of a board.
-use Rattle.std.specs.Prelude.{ℕ, ◌≡◌, ◌-◌, ◌++◌, Bool, false, List, length, take, drop, min, IsSome, Option}
+use Rattle.std.specs.Prelude.{ℕ, ◌≡◌, ◌≤◌, ◌-◌, ◌++◌, Bool, false, List, length, take, drop, min, IsSome, Option}
 use Rattle.scan_types.specs.declared.rule.VoidRule.{VoidRule}
 use Rattle.scan_types.specs.declared.offer.Offer.{Offer}
 use Rattle.board_definitions.specs.declared.event.Event.TheVariants as event
@@ -30,6 +30,12 @@ IsPick before caller after (pick.Pinned pin) =
     IsLongestDue before.history pin.match_name × (pin ≡ next_pin before.history caller pin.match_name) × (after ≡ with_entry before caller (event.Pinned pin.match_name))
 IsPick before caller after pick.Idle = NoneIsDue before.history × HasOpenFeed before.fixed.rules before.history × (after ≡ before)
 IsPick before caller after pick.Finished = NoneIsDue before.history × HaveAllEnded before.fixed.rules before.history × (after ≡ before)
+
+-- the answer if no match is due and so many feeds have not ended
+abbrev pub IsEmptyPick : ℕ → Pick → Type 0
+IsEmptyPick open_feeds (pick.Pinned pin) = ⊥
+IsEmptyPick open_feeds pick.Idle = 1 ≤ open_feeds
+IsEmptyPick open_feeds pick.Finished = open_feeds ≡ 0
 
 -- the offers from a place on are copied, as many as there are and as fit; the places behind them stay
 pub record IsCopied (offers : List Offer) (from : ℕ) (old new : List Offer) (count : ℕ) : Type 0 where

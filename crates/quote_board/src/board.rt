@@ -1,11 +1,11 @@
 ghost use Rattle.std.specs.Prelude.{◌≡◌, ◌≢◌, ◌+◌, ◌-◌, ◌≤◌, ◌<◌, ◌++◌, ◌∷◌, [], List, length, map, replicate, Some, None, OnOk, OnErr, IfOk, vec_len, vec_capacity};
 ghost use Rattle.board_definitions.specs.declared.event.Event.TheVariants as event;
-ghost use Rattle.board_definitions.specs.declared.event.FeedStop.TheVariants as stop;
+ghost use Rattle.board_definitions.specs.declared.event.FeedStop.TheVariants.{BadHeader};
 ghost use Rattle.std.specs.Prelude.{IsSome, option_and_then};
 ghost use Rattle.scan_types.specs.Ranges.{IsLimitRange};
 ghost use Rattle.scan_types.specs.Selections.{selection_number};
 ghost use Rattle.board_definitions.specs.Entries.{rule_of};
-ghost use Rattle.quote_board.specs.Answers.{IsCopied};
+ghost use Rattle.quote_board.specs.Answers.{IsCopied, IsEmptyPick};
 ghost use Rattle.quote_board.specs.Books.{IsFirstWaiting};
 ghost use Rattle.board_definitions.specs.Pins.{IsLive, HasNoPin};
 ghost use Rattle.board_definitions.specs.Sheets.{sheet, offer_with};
@@ -68,6 +68,19 @@ fn slot_of(key: &Key) -> Slot
     }
 }
 
+/// The rule of a feed that there is.
+fn rule_for(rules: &[Option<VoidRule>], feed: u8) -> VoidRule
+    requires eight { length rules.now ≡ MOST_FEEDS }
+    requires exists { IsSome (rule_of rules.now feed) }
+    ensures value { rule_of rules.now feed ≡ Some result }
+    ensures fits { feed < MOST_FEEDS }
+{
+    match rules.get(usize::from(feed)) {
+        Some(Some(rule)) => *rule,
+        _ => unreachable!(),
+    }
+}
+
 /// The offer that a quote makes, under the rule of its feed.
 fn offer_for(rules: &[Option<VoidRule>], key: &Key, odds: Odds, limit: u32) -> Offer
     requires eight { length rules.now ≡ MOST_FEEDS }
@@ -75,15 +88,13 @@ fn offer_for(rules: &[Option<VoidRule>], key: &Key, odds: Odds, limit: u32) -> O
     requires in_range { IsLimitRange limit }
     ensures { option_and_then (offer_with key.now.feed key.now.selection odds limit) (rule_of rules.now key.now.feed) ≡ Some result }
 {
-    match rules.get(usize::from(key.feed)) {
-        Some(Some(rule)) => Offer {
-            feed: key.feed,
-            selection: key.selection,
-            odds,
-            limit,
-            rule: *rule,
-        },
-        _ => unreachable!(),
+    let rule = rule_for(rules, key.feed);
+    Offer {
+        feed: key.feed,
+        selection: key.selection,
+        odds,
+        limit,
+        rule,
     }
 }
 
@@ -94,6 +105,17 @@ fn longest_waiting(waiting: &BTreeMap<u64, Name>) -> Option<Name>
     match waiting.first_key_value() {
         Some((_, match_name)) => Some(*match_name),
         None => None,
+    }
+}
+
+/// The answer if no match is due and so many feeds have not ended.
+fn empty_pick(open_feeds: usize) -> Pick
+    ensures { IsEmptyPick open_feeds result }
+{
+    if open_feeds == 0 {
+        Pick::Finished
+    } else {
+        Pick::Idle
     }
 }
 
@@ -173,7 +195,7 @@ impl<W: Law> Board<W> {
     /// Says that the feed has ended, and how. It adds one entry, whose room was taken in `new`.
     pub fn end_feed(&mut self, caller: u8, feed: u8, stop: FeedStop)
         requires open { IsOpenFeed self.old.fixed.rules self.old.history caller feed }
-        requires stop { stop ≢ stop.BadHeader }
+        requires stop { stop ≢ BadHeader }
         ensures { self.new ≡ with_entry self.old caller (event.Ended feed stop) }
     {
         self.open_feeds -= 1;
@@ -219,8 +241,7 @@ impl<W: Law> Board<W> {
     {
         match longest_waiting(&self.waiting) {
             Some(match_name) => Ok(Pick::Pinned(self.pin_named(caller, match_name)?)),
-            None if self.open_feeds == 0 => Ok(Pick::Finished),
-            None => Ok(Pick::Idle),
+            None => Ok(empty_pick(self.open_feeds)),
         }
     }
 

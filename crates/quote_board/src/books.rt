@@ -1,9 +1,11 @@
 //! What stands on each match, by its name, in the order of the first quotes.
 
-ghost use Rattle.std.specs.Prelude.{◌≡◌, ℕ, List, false, ◌==◌, ◌&&◌, OnOk, OnErr, IfOk, IsSome, if◌then◌else◌};
+ghost use Rattle.std.specs.Prelude.{◌≡◌, ℕ, List, false, ◌==◌, ◌&&◌, OnOk, OnErr, IfOk, IsSome, IfSome, if◌then◌else◌};
 ghost use Rattle.std.specs.Option.{option_or, is_none, option_map_or};
 ghost use Rattle.std.specs.Str.{bytes_eq};
-ghost use Rattle.quote_board.specs.Books.{offer_of, due_of, offers_on, waits_for, SameWaiting};
+ghost use Rattle.quote_board.specs.Books.{offer_of, due_of, offers_on, waits_for, slot_cmp, SameWaiting};
+ghost use Rattle.std.specs.BTreeMap.{IsOrdered};
+ghost use Rattle.indexmap.specs.IndexMap.{get as entry_of};
 
 use crate::book::{Book, Slot, clear_due, put_offer, take_offer};
 use indexmap::IndexMap;
@@ -76,7 +78,8 @@ pub(crate) fn copy_sheet(
     alloc: Global,
     match_name: Name,
 ) -> Result<Vec<Offer>, WantOfMemory>
-    ensures { IfOk result (λ offers. offers.items ≡ offers_on books.now match_name) }
+    ensures offers { IfOk result (λ offers. offers.items ≡ offers_on books.now match_name) }
+    ensures ordered { OnOk result (IfSome (entry_of bytes_eq books.now match_name) (λ book. IsOrdered slot_cmp book.offers)) }
 {
     match books.get(&match_name) {
         None => Ok(Vec::new(alloc)),
