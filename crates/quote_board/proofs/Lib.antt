@@ -7,3 +7,4 @@ pub mod Sound
 pub mod Stood
 pub mod Lists
 pub mod Picks
+pub mod Start

@@ -1,5 +1,5 @@
 -- The answers of a board.
-use Rattle.std.specs.Prelude.{ℕ, ◌≡◌, ◌≤◌, ◌-◌, ◌++◌, Bool, false, List, length, take, drop, min, IsSome, Option}
+use Rattle.std.specs.Prelude.{ℕ, ◌≡◌, ◌≤◌, ◌-◌, ◌++◌, Bool, false, List, length, take, drop, min, IsSome, Option, slice_get}
 use Rattle.scan_types.specs.declared.rule.VoidRule.{VoidRule}
 use Rattle.scan_types.specs.declared.offer.Offer.{Offer}
 use Rattle.board_definitions.specs.declared.event.Event.TheVariants as event
@@ -10,6 +10,10 @@ use Rattle.board_definitions.specs.declared.pin.Pick.TheVariants as pick
 use Rattle.board_definitions.specs.Entries.{rule_of}
 use Rattle.board_definitions.specs.Pins.{IsDue, IsLongestDue, HaveAllEnded, has_ended}
 use Rattle.quote_board.specs.Views.{BoardView, with_entry}
+
+-- each feed has the rule of its number, and there are no further feeds
+abbrev pub AreRulesOf : List VoidRule → List (Option VoidRule) → Type 0
+AreRulesOf given rules = (feed : ℕ) → rule_of rules feed ≡ slice_get given feed
 
 -- the pin that an entry of this caller and match makes
 abbrev pub next_pin : List Entry → ℕ → List ℕ → Pin

@@ -5,7 +5,7 @@ ghost use Rattle.std.specs.Prelude.{IsSome, option_and_then};
 ghost use Rattle.scan_types.specs.Ranges.{IsLimitRange};
 ghost use Rattle.scan_types.specs.Selections.{selection_number};
 ghost use Rattle.board_definitions.specs.Entries.{rule_of};
-ghost use Rattle.quote_board.specs.Answers.{IsCopied, IsEmptyPick};
+ghost use Rattle.quote_board.specs.Answers.{AreRulesOf, IsCopied, IsEmptyPick};
 ghost use Rattle.quote_board.specs.Books.{IsFirstWaiting};
 ghost use Rattle.board_definitions.specs.Pins.{IsLive, HasNoPin};
 ghost use Rattle.board_definitions.specs.Sheets.{sheet, offer_with};
@@ -66,6 +66,19 @@ fn slot_of(key: &Key) -> Slot
         feed: key.feed,
         number: key.selection.number(),
     }
+}
+
+/// The rules by feed number, and none beyond the last feed.
+fn rules_by_feed(rules: &[VoidRule]) -> [Option<VoidRule>; MOST_FEEDS]
+    requires { length rules.now ≤ MOST_FEEDS }
+    ensures rules { AreRulesOf rules.now result }
+    ensures eight { length result ≡ MOST_FEEDS }
+{
+    let mut slots = [None; MOST_FEEDS];
+    for feed in 0..rules.len() {
+        slots[feed] = Some(rules[feed]);
+    }
+    slots
 }
 
 /// The rule of a feed that there is.
@@ -133,6 +146,31 @@ fn copy_part(offers: &[Offer], from: usize, out: &mut [Offer]) -> usize
 impl<W: Law> Board<W> {
     ghost use Rattle.quote_board.specs.Views.{with_entry};
     ghost use Rattle.quote_board.specs.Answers.{IsPick, next_pin};
+
+    /// A board without entries, for as many feeds as there are rules, by feed number.
+    ///
+    /// Takes the room for one `Ended` a feed.
+    pub fn new(alloc: Global, law: W, rules: &[VoidRule]) -> Result<Board<W>, WantOfMemory>
+        requires some { 1 ≤ length rules.now }
+        requires few { length rules.now ≤ MOST_FEEDS }
+        ensures history { IfOk result (λ board. board.history ≡ []) }
+        ensures law { IfOk result (λ board. board.fixed.law ≡ law) }
+        ensures rules { IfOk result (λ board. AreRulesOf rules.now board.fixed.rules) }
+    {
+        let history = Vec::with_capacity(alloc, rules.len())?;
+        Ok(Board {
+            fixed: BoardPart {
+                rules: rules_by_feed(rules),
+                law,
+            },
+            history,
+            books: IndexMap::new(alloc),
+            waiting: BTreeMap::new(alloc),
+            pins: BTreeMap::new(alloc),
+            open_feeds: rules.len(),
+            alloc,
+        })
+    }
 
     /// Takes the feed's quote: the odds and the limit stand from now on at the key. It adds one entry.
     ///
