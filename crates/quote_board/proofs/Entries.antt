@@ -1,5 +1,5 @@
 -- What each match has after a change of one match.
-use Rattle.std.proofs.Common.{ℕ, ◌≡◌, Bool, true, false, cond, List, refl, sym, ap, ◌∙◌, Some, None, subst, ⊎_elim}
+use Rattle.std.proofs.Common.{ℕ, ◌≡◌, Bool, true, false, cond, List, sym, ap, ◌∙◌, Some, None, ⊎_elim}
 use Rattle.std.specs.Prelude.{Option, option_and_then}
 use Rattle.std.specs.Option.{unwrap_or}
 use Rattle.std.specs.Map.{lookup}
@@ -8,7 +8,6 @@ use Rattle.std.proofs.lemmas.Bool.{cases_Bool}
 use Rattle.std.proofs.lemmas.Slice.Eq.{bytes_eq-Decides}
 use Rattle.indexmap.specs.IndexMap.{IndexMap, get as entry_of}
 use Rattle.quote_board.specs.declared.book.Book.{Book}
-use Rattle.quote_board.specs.Books.{offer_in, offer_of, due_of}
 
 -- what is read of each match stays where it stays at the one that changed
 pub read_same : {S A : Type 0} (read : Book → Option A) (old : IndexMap (List ℕ) Book S) (entries : List (List ℕ × Book)) (name : List ℕ) (book : Book) →
@@ -18,12 +17,12 @@ pub read_same : {S A : Type 0} (read : Book → Option A) (old : IndexMap (List 
 read_same {S} {A} read old entries name book h same m =
     ap (option_and_then read) (h m)
     ∙ ⊎_elim
-      (λ (here : bytes_eq name m ≡ true).
-          let names : name ≡ m = (bytes_eq-Decides name m).0 here in
-          ap (λ (b : Bool). option_and_then read (cond b (Some book) (entry_of bytes_eq old m))) here
-          ∙ same ∙ ap (λ (q : List ℕ). option_and_then read (entry_of bytes_eq old q)) names)
-      (λ (there : bytes_eq name m ≡ false). ap (λ (b : Bool). option_and_then read (cond b (Some book) (entry_of bytes_eq old m))) there)
-      (cases_Bool (bytes_eq name m))
+    (λ (here : bytes_eq name m ≡ true).
+    let names : name ≡ m = (bytes_eq-Decides name m).0 here in
+    ap (λ (b : Bool). option_and_then read (cond b (Some book) (entry_of bytes_eq old m))) here
+    ∙ same ∙ ap (λ (q : List ℕ). option_and_then read (entry_of bytes_eq old q)) names)
+    (λ (there : bytes_eq name m ≡ false). ap (λ (b : Bool). option_and_then read (cond b (Some book) (entry_of bytes_eq old m))) there)
+    (cases_Bool (bytes_eq name m))
 
 -- what is read of a match that was there
 pub read_there : {S A : Type 0} (read : Book → Option A) (old : IndexMap (List ℕ) Book S) (name : List ℕ) (before after : Book) →

@@ -1,10 +1,10 @@
 -- How many feeds have not ended.
-use Rattle.std.proofs.Common.{ℕ, ◌≡◌, ◌+◌, ◌≤◌, ◌<◌, inl, inr, Bool, true, false, cond, List, [], ◌∷◌, ◌++◌, length, refl, sym, ap, ◌∙◌, Some, None, subst, ⊎_elim, arith, zero, suc}
-use Rattle.std.specs.Prelude.{◌⊎◌, Option, ◌==◌, ◌&&◌, ◌||◌, not, count_by, IsSome, option_and_then}
+use Rattle.std.proofs.Common.{ℕ, ◌≡◌, ◌+◌, ◌≤◌, ◌<◌, Bool, true, false, cond, List, [], ◌∷◌, ◌++◌, length, refl, sym, ap, ◌∙◌, None, subst, ⊎_elim, arith, zero, suc}
+use Rattle.std.specs.Prelude.{Option, ◌==◌, ◌&&◌, ◌||◌, not, count_by, IsSome, option_and_then}
 use Rattle.std.specs.Option.{is_some}
-use Rattle.std.specs.List.{range_with_len, list_any}
+use Rattle.std.specs.List.{range_with_len}
 use Rattle.std.proofs.lemmas.List.Folds.{list_any-append}
-use Rattle.std.proofs.lemmas.Bool.{cases_Bool, cases_eq, cases_lt, and_parts, and_from, or_from, or_right, both_ways, not_from_true, not_from_false, not-true, not-false}
+use Rattle.std.proofs.lemmas.Bool.{cases_Bool, cases_eq, cases_lt, and_parts, and_from, or_right, not_from_false, not-true}
 use Rattle.std.proofs.lemmas.Bool.Decides.{Decides-eqb}
 use Rattle.std.proofs.lemmas.Option.{slice_get_past}
 use Rattle.scan_types.specs.declared.limits.TheConstants.{MOST_FEEDS}
@@ -57,17 +57,17 @@ one_less p q j a zero low high now then same = absurd (omega arith)
 one_less p q j a (suc n) low high now then same =
     ⊎_elim
     (λ (here : a ≡ j).
-        let up = count_le p q (a + 1) n (λ k l passes. sym (same k (λ e. omega (arith, l, e, here))) ∙ passes) in
-        let down = count_le q p (a + 1) n (λ k l passes. same k (λ e. omega (arith, l, e, here)) ∙ passes) in
-        let qa : q a ≡ true = ap q here ∙ now in
-        let pa : p a ≡ false = ap p here ∙ then in
-        let one : cond {A = ℕ} (q a) 1 0 ≡ 1 = ap (λ (b : Bool). cond {A = ℕ} b 1 0) qa in
-        let nothing : cond {A = ℕ} (p a) 1 0 ≡ 0 = ap (λ (b : Bool). cond {A = ℕ} b 1 0) pa in
-        omega (arith, count_step p a n, count_step q a n, up, down, one, nothing))
+    let up = count_le p q (a + 1) n (λ k l passes. sym (same k (λ e. omega (arith, l, e, here))) ∙ passes) in
+    let down = count_le q p (a + 1) n (λ k l passes. same k (λ e. omega (arith, l, e, here)) ∙ passes) in
+    let qa : q a ≡ true = ap q here ∙ now in
+    let pa : p a ≡ false = ap p here ∙ then in
+    let one : cond {A = ℕ} (q a) 1 0 ≡ 1 = ap (λ (b : Bool). cond {A = ℕ} b 1 0) qa in
+    let nothing : cond {A = ℕ} (p a) 1 0 ≡ 0 = ap (λ (b : Bool). cond {A = ℕ} b 1 0) pa in
+    omega (arith, count_step p a n, count_step q a n, up, down, one, nothing))
     (λ (there : a ≡ j → ⊥).
-        let rest = one_less p q j (a + 1) n (let w : (j ≡ a → ⊥) = λ e. there (sym e) in grind (arith, w)) (omega (arith, high)) now then same in
-        let equal : cond {A = ℕ} (p a) 1 0 ≡ cond (q a) 1 0 = ap (λ (b : Bool). cond {A = ℕ} b 1 0) (same a there) in
-        omega (arith, count_step p a n, count_step q a n, rest, equal))
+    let rest = one_less p q j (a + 1) n (let w : (j ≡ a → ⊥) = λ e. there (sym e) in grind (arith, w)) (omega (arith, high)) now then same in
+    let equal : cond {A = ℕ} (p a) 1 0 ≡ cond (q a) 1 0 = ap (λ (b : Bool). cond {A = ℕ} b 1 0) (same a there) in
+    omega (arith, count_step p a n, count_step q a n, rest, equal))
     (cases_eq a j)
 
 -- an entry that ends an open feed
@@ -78,7 +78,7 @@ open_less rules h e feed fits exists running is =
     one_less (is_open rules (h ++ e ∷ [])) (is_open rules h) feed 0 MOST_FEEDS (omega arith) (omega (arith, fits))
     (and_from (is_some (rule_of rules feed)) (not (has_ended h feed)) exists (not_from_false _ running))
     (ap (λ (b : Bool). is_some (rule_of rules feed) && not b) (ended_more h e feed ∙ or_right (has_ended h feed) (ends feed e.event || false) (ap (λ (b : Bool). b || false) (is feed ∙ (Decides-eqb feed feed).1 refl)))
-        ∙ and_false (is_some (rule_of rules feed)))
+    ∙ and_false (is_some (rule_of rules feed)))
     (λ k other. open_same rules h e k (is k ∙ apart feed k (λ e. other (sym e))))
 
 -- a count tells whether a test passes
@@ -88,10 +88,10 @@ none_passes p a (suc n) h k low high =
     let step = count_step p a n in
     ⊎_elim
     (λ (here : a ≡ k).
-        ⊎_elim
-        (λ (passes : p a ≡ true). let one : cond {A = ℕ} (p a) 1 0 ≡ 1 = ap (λ (b : Bool). cond {A = ℕ} b 1 0) passes in absurd (omega (arith, step, one, h)))
-        (λ (fails : p a ≡ false). ap p (sym here) ∙ fails)
-        (cases_Bool (p a)))
+    ⊎_elim
+    (λ (passes : p a ≡ true). let one : cond {A = ℕ} (p a) 1 0 ≡ 1 = ap (λ (b : Bool). cond {A = ℕ} b 1 0) passes in absurd (omega (arith, step, one, h)))
+    (λ (fails : p a ≡ false). ap p (sym here) ∙ fails)
+    (cases_Bool (p a)))
     (λ (there : a ≡ k → ⊥). none_passes p (a + 1) n (omega (arith, step, h)) k (let w : (k ≡ a → ⊥) = λ e. there (sym e) in grind (arith, w)) (omega (arith, high)))
     (cases_eq a k)
 
@@ -115,7 +115,7 @@ unfolding open_count
 all_ended rules h eight none = λ feed exists.
     ⊎_elim
     (λ (fits : feed < MOST_FEEDS).
-        not_both (is_some (rule_of rules feed)) (has_ended h feed) (none_passes (is_open rules h) 0 MOST_FEEDS none feed (omega arith) (omega (arith, fits))) exists)
+    not_both (is_some (rule_of rules feed)) (has_ended h feed) (none_passes (is_open rules h) 0 MOST_FEEDS none feed (omega arith) (omega (arith, fits))) exists)
     (λ (past : MOST_FEEDS ≤ feed). absurd (no_rule rules feed (omega (arith, eight, past)) exists))
     (cases_lt feed MOST_FEEDS)
 

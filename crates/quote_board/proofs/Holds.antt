@@ -1,13 +1,12 @@
 -- The map of live pins after one more entry.
-use Rattle.std.proofs.Common.{ℕ, ◌≡◌, ◌+◌, ◌≤◌, ◌<◌, Bool, true, false, cond, List, [], ◌∷◌, ◌++◌, length, refl, sym, ap, ◌∙◌, Some, None, subst, ⊎_elim, arith}
+use Rattle.std.proofs.Common.{ℕ, ◌≡◌, ◌<◌, true, false, List, [], ◌∷◌, ◌++◌, length, refl, sym, ap, ◌∙◌, Some, None, ⊎_elim, arith}
 use Rattle.std.specs.Prelude.{Option, MatchOption, ◌==◌, slice_get}
 use Rattle.std.specs.BTreeMap.{is_at}
 use Rattle.std.specs.Ordering.{nat_cmp}
-use Rattle.std.proofs.lemmas.Bool.{cases_Bool, or_from, both_ways, false_from_ne_true}
-use Rattle.std.proofs.lemmas.Bool.Decides.{Decides-eqb, nat_tests}
+use Rattle.std.proofs.lemmas.Bool.{or_from, both_ways}
+use Rattle.std.proofs.lemmas.Bool.Decides.{nat_tests}
 use Rattle.std.proofs.lemmas.Option.{slice_get_within}
 use Rattle.scan_types.specs.declared.rule.VoidRule.{VoidRule}
-use Rattle.board_definitions.specs.declared.event.Event.{Event}
 use Rattle.board_definitions.specs.declared.event.Event.TheVariants.{Pinned}
 use Rattle.board_definitions.specs.declared.event.Entry.{Entry}
 use Rattle.board_definitions.specs.declared.pin.Pin.{Pin}
@@ -32,7 +31,7 @@ none_stays h e caller quiet none = λ pin is live.
     ⊎_elim
     (λ (before : IsLive h pin × (closes pin.version e.event ≡ false)). none pin is before.0)
     (λ (last : (pin.version ≡ length h) × (e ≡ record { caller = pin.caller; event = Pinned pin.match_name })).
-        quiet pin.match_name (last.1 ∙ ap (λ (c : ℕ). record { caller = c; event = Pinned pin.match_name }) is))
+    quiet pin.match_name (last.1 ∙ ap (λ (c : ℕ). record { caller = c; event = Pinned pin.match_name }) is))
     (live_back h e pin live)
 
 pub version_within : (h : List Entry) (pin : Pin) → IsLive h pin → pin.version < length h
@@ -48,7 +47,7 @@ held_stays rules h e caller held quiet stays was =
           ⊎_elim
           (λ (before : IsLive h pin × (closes pin.version e.event ≡ false)). was.only pin is before.0)
           (λ (last : (pin.version ≡ length h) × (e ≡ record { caller = pin.caller; event = Pinned pin.match_name })).
-              absurd (quiet pin.match_name (last.1 ∙ ap (λ (c : ℕ). record { caller = c; event = Pinned pin.match_name }) is)))
+          absurd (quiet pin.match_name (last.1 ∙ ap (λ (c : ℕ). record { caller = c; event = Pinned pin.match_name }) is)))
           (live_back h e pin live);
       sheet_is = was.sheet_is ∙ sym (sheet_stays rules h (e ∷ []) held.version held.match_name (omega (arith, within)));
     }
@@ -81,9 +80,9 @@ pub none_after : (rules : List (Option VoidRule)) (h : List Entry) (e : Entry) (
 none_after rules h e caller held quiet closed was = λ pin is live.
     ⊎_elim
     (λ (before : IsLive h pin × (closes pin.version e.event ≡ false)).
-        both_ways _ before.1 (ap (λ (v : ℕ). closes v e.event) (was.only pin is before.0) ∙ closed))
+    both_ways _ before.1 (ap (λ (v : ℕ). closes v e.event) (was.only pin is before.0) ∙ closed))
     (λ (last : (pin.version ≡ length h) × (e ≡ record { caller = pin.caller; event = Pinned pin.match_name })).
-        quiet pin.match_name (last.1 ∙ ap (λ (c : ℕ). record { caller = c; event = Pinned pin.match_name }) is))
+    quiet pin.match_name (last.1 ∙ ap (λ (c : ℕ). record { caller = c; event = Pinned pin.match_name }) is))
     (live_back h e pin live)
 
 -- two callers' pins have two versions

@@ -1,15 +1,13 @@
 -- A match's offers by their slots are its sheet.
-use Rattle.std.proofs.Common.{ℕ, ◌≡◌, ◌+◌, ◌≤◌, ◌<◌, inl, inr, ⊎_elim, Bool, true, false, cond, List, [], ◌∷◌, length, take, refl, sym, ap, ◌∙◌, Some, None, arith, subst, zero, suc, map, get_or}
+use Rattle.std.proofs.Common.{ℕ, ◌≡◌, ◌≤◌, ◌<◌, inl, inr, ⊎_elim, List, [], ◌∷◌, refl, sym, ap, ◌∙◌, Some, None, arith, subst, zero, suc}
 use Rattle.std.specs.Prelude.{◌⊎◌, Option, slice_get, option_and_then, IfSome}
 use Rattle.std.specs.Option.{option_map_or}
-use Rattle.std.specs.BTreeMap.{BTreeMap, get, values, keys, is_at, IsOrdered}
+use Rattle.std.specs.BTreeMap.{values, is_at, IsOrdered}
 use Rattle.std.specs.List.{AllByRecursion}
 use Rattle.std.specs.List.Sorted.{IsStrictlySortedBy}
-use Rattle.std.specs.Map.{lookup, keys_of, values_of}
+use Rattle.std.specs.Map.{keys_of, values_of}
 use Rattle.std.specs.Cmp.{IsTotalOrder}
-use Rattle.std.specs.Ordering.{nat_cmp}
-use Rattle.std.specs.declared.cmp.Ordering.{Ordering}
-use Rattle.std.specs.declared.cmp.Ordering.TheVariants.{Less, Equal, Greater}
+use Rattle.std.specs.declared.cmp.Ordering.TheVariants.{Less}
 use Rattle.std.proofs.lemmas.Cmp.{then_total, on_total, nat_cmp_total}
 use Rattle.std.proofs.lemmas.Map.Entries.{btree_map_get_place, place_from_lookup}
 use Rattle.std.proofs.lemmas.Map.Keys.{sorted_head, sorted_tail}
@@ -108,18 +106,18 @@ book_sheet : (rules : List (Option VoidRule)) (h : List Entry) (m : List ℕ) (b
     ((f n : ℕ) → offer_in book f n ≡ standing rules h m f n) → values book.offers ≡ standing_sheet rules h m
 book_sheet rules h m book ordered same =
     let at : (i : ℕ) (k : Slot) (z : Offer) → slice_get book.offers.entries i ≡ Some (k, z) → standing rules h m k.feed k.number ≡ Some z =
-        λ i k z found. sym (same k.feed k.number) ∙ btree_map_get_place slots_total book.offers i k z ordered found in
+    λ i k z found. sym (same k.feed k.number) ∙ btree_map_get_place slots_total book.offers i k z ordered found in
     let places : AreInSlots book.offers.entries = places_from book.offers.entries (λ i k z found. (standing_placed rules h m k.feed k.number z (at i k z found)).0) in
     same_lists IsBelow below_once (values book.offers) (standing_sheet rules h m) (offers_rise book.offers.entries ordered places) (sheet_rises rules h m)
     (λ z here. let e = entry_of_offer book.offers.entries z here in
-        let stands = at e.0 e.1 z e.2 in
-        let placed = (standing_placed rules h m e.1.feed e.1.number z stands).0 in
-        let fits : z.feed < MOST_FEEDS = z.feed_at_most in
-        sheet_has rules h m z e.1.feed e.1.number (omega (arith, fits, placed.feed_is)) (omega (arith, number_below z.selection, placed.number_is)) stands)
+    let stands = at e.0 e.1 z e.2 in
+    let placed = (standing_placed rules h m e.1.feed e.1.number z stands).0 in
+    let fits : z.feed < MOST_FEEDS = z.feed_at_most in
+    sheet_has rules h m z e.1.feed e.1.number (omega (arith, fits, placed.feed_is)) (omega (arith, number_below z.selection, placed.number_is)) stands)
     (λ z there. let it = in_sheet rules h m z there in
-        let found : offer_in book it.0 it.1 ≡ Some z = same it.0 it.1 ∙ it.4 in
-        let e = place_from_lookup (is_at (slot_cmp (record { feed = it.0; number = it.1 }))) book.offers.entries z found in
-        offer_of_entry book.offers.entries e.0 e.1 z e.2)
+    let found : offer_in book it.0 it.1 ≡ Some z = same it.0 it.1 ∙ it.4 in
+    let e = place_from_lookup (is_at (slot_cmp (record { feed = it.0; number = it.1 }))) book.offers.entries z found in
+    offer_of_entry book.offers.entries e.0 e.1 z e.2)
 
 blank_sheet : (rules : List (Option VoidRule)) (h : List Entry) (m : List ℕ) → ((f n : ℕ) → None ≡ standing rules h m f n) → [] ≡ standing_sheet rules h m
 blank_sheet rules h m none =

@@ -1,7 +1,6 @@
 -- The answers to a request for a pin.
-use Rattle.std.proofs.Common.{ℕ, ◌≡◌, ◌≤◌, List, length, refl, sym, ap, ◌∙◌, arith}
+use Rattle.std.proofs.Common.{ℕ, ◌≡◌, length, refl, sym, ◌∙◌, arith}
 use Rattle.scan_types.specs.declared.limits.TheConstants.{MOST_FEEDS}
-use Rattle.board_definitions.specs.declared.pin.Pin.{Pin}
 use Rattle.board_definitions.specs.declared.pin.Pick.{Pick}
 use Rattle.board_definitions.specs.declared.pin.Pick.TheVariants.{Pinned, Idle, Finished}
 use Rattle.quote_board.specs.Views.{BoardView}

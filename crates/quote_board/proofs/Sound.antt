@@ -15,7 +15,6 @@ use Rattle.indexmap.specs.IndexMap.{IndexMap}
 use Rattle.scan_types.specs.declared.rule.VoidRule.{VoidRule}
 use Rattle.scan_types.specs.declared.offer.Offer.{Offer}
 use Rattle.finding_definitions.specs.declared.finding.Finding.{Finding}
-use Rattle.board_definitions.specs.declared.event.Event.{Event}
 use Rattle.board_definitions.specs.declared.event.Event.TheVariants.{Quoted, Withdrawn, Ended, Pinned, Filed, Released}
 use Rattle.board_definitions.specs.declared.event.Entry.{Entry}
 use Rattle.board_definitions.specs.declared.pin.Pin.{Pin}
@@ -96,14 +95,14 @@ module _ {S : Type 0} (rules : List (Option VoidRule)) (h : List Entry) where
         pins_are = λ q. let P : Option Held → Type 0 = λ o. HoldsAt rules (h ++ e ∷ []) q o in
             ⊎_elim
             (λ (here : (caller == q) ≡ true).
-                let same : caller ≡ q = (Decides-eqb caller q).0 here in
-                let there : get nat_cmp held' q ≡ Some x = held_is q ∙ ap (λ (b : Bool). cond b (Some x) (get nat_cmp held q)) (at_caller caller q ∙ here) in
-                let Q : ℕ → Type 0 = λ c. IsHeld rules (h ++ e ∷ []) c x in
-                subst P (sym there) (subst Q same (held_new rules h caller x none version is)))
+            let same : caller ≡ q = (Decides-eqb caller q).0 here in
+            let there : get nat_cmp held' q ≡ Some x = held_is q ∙ ap (λ (b : Bool). cond b (Some x) (get nat_cmp held q)) (at_caller caller q ∙ here) in
+            let Q : ℕ → Type 0 = λ c. IsHeld rules (h ++ e ∷ []) c x in
+            subst P (sym there) (subst Q same (held_new rules h caller x none version is)))
             (λ (apart : (caller == q) ≡ false).
-                let there : get nat_cmp held' q ≡ get nat_cmp held q = held_is q ∙ ap (λ (b : Bool). cond b (Some x) (get nat_cmp held q)) (at_caller caller q ∙ apart) in
-                let quiet : IsNoPinOf q e = λ m same. both_ways _ apart ((Decides-eqb caller q).1 (ap (λ (y : Entry). y.caller) same)) in
-                subst P (sym there) (holds_stay rules h e q (get nat_cmp held q) quiet (λ y _. refl) (was.pins_are q)))
+            let there : get nat_cmp held' q ≡ get nat_cmp held q = held_is q ∙ ap (λ (b : Bool). cond b (Some x) (get nat_cmp held q)) (at_caller caller q ∙ apart) in
+            let quiet : IsNoPinOf q e = λ m same. both_ways _ apart ((Decides-eqb caller q).1 (ap (λ (y : Entry). y.caller) same)) in
+            subst P (sym there) (holds_stay rules h e q (get nat_cmp held q) quiet (λ y _. refl) (was.pins_are q)))
             (cases_Bool (caller == q));
       }
 
@@ -121,20 +120,20 @@ module _ {S : Type 0} (rules : List (Option VoidRule)) (h : List Entry) where
         pins_are = λ q. let P : Option Held → Type 0 = λ o. HoldsAt rules (h ++ e ∷ []) q o in
             ⊎_elim
             (λ (here : (pin.caller == q) ≡ true).
-                let same : pin.caller ≡ q = (Decides-eqb pin.caller q).0 here in
-                let gone : get nat_cmp held' q ≡ None = held_is q ∙ ap (λ (b : Bool). cond b None (get nat_cmp held q)) (at_caller pin.caller q ∙ here) in
-                let Q : ℕ → Type 0 = λ c. HasNoPin (h ++ e ∷ []) c in
-                subst P (sym gone) (subst Q same (closed_now rules h e pin (get nat_cmp held pin.caller) live (quiet pin.caller) closing (was.pins_are pin.caller))))
+            let same : pin.caller ≡ q = (Decides-eqb pin.caller q).0 here in
+            let gone : get nat_cmp held' q ≡ None = held_is q ∙ ap (λ (b : Bool). cond b None (get nat_cmp held q)) (at_caller pin.caller q ∙ here) in
+            let Q : ℕ → Type 0 = λ c. HasNoPin (h ++ e ∷ []) c in
+            subst P (sym gone) (subst Q same (closed_now rules h e pin (get nat_cmp held pin.caller) live (quiet pin.caller) closing (was.pins_are pin.caller))))
             (λ (apart : (pin.caller == q) ≡ false).
-                let there : get nat_cmp held' q ≡ get nat_cmp held q = held_is q ∙ ap (λ (b : Bool). cond b None (get nat_cmp held q)) (at_caller pin.caller q ∙ apart) in
-                subst P (sym there) (holds_stay rules h e q (get nat_cmp held q) (quiet q)
-                  (λ x its. closing x.version ∙ ⊎_elim
-                    (λ (same : (pin.version == x.version) ≡ true).
-                        let callers : pin.caller ≡ q = versions_apart h pin (record { caller = q; version = x.version; match_name = x.match_name }) live its.live ((Decides-eqb pin.version x.version).0 same) in
-                        absurd (both_ways _ apart ((Decides-eqb pin.caller q).1 callers)))
-                    (λ (other : (pin.version == x.version) ≡ false). other)
-                    (cases_Bool (pin.version == x.version)))
-                  (was.pins_are q)))
+            let there : get nat_cmp held' q ≡ get nat_cmp held q = held_is q ∙ ap (λ (b : Bool). cond b None (get nat_cmp held q)) (at_caller pin.caller q ∙ apart) in
+            subst P (sym there) (holds_stay rules h e q (get nat_cmp held q) (quiet q)
+            (λ x its. closing x.version ∙ ⊎_elim
+            (λ (same : (pin.version == x.version) ≡ true).
+            let callers : pin.caller ≡ q = versions_apart h pin (record { caller = q; version = x.version; match_name = x.match_name }) live its.live ((Decides-eqb pin.version x.version).0 same) in
+            absurd (both_ways _ apart ((Decides-eqb pin.caller q).1 callers)))
+            (λ (other : (pin.version == x.version) ≡ false). other)
+            (cases_Bool (pin.version == x.version)))
+            (was.pins_are q)))
             (cases_Bool (pin.caller == q));
       }
 
@@ -232,11 +231,11 @@ module _ {S : Type 0} (allows : List Offer → Finding → Type 0) (rules : List
       let e : Entry = record { caller = caller; event = Quoted key odds limit line } in
       sound_more allows rules h e capacity capacity' open_feeds books books' waiting waiting' held held may (λ f. refl) room
       (agrees_changed rules h e key.match_name books books' waiting waiting' held (quoted_is_quiet caller key odds limit line) (λ m. refl)
-        (λ m f n. offers m f n ∙ ap (λ (b : Bool). cond b (Some offer) (offer_of books m f n)) (slot_key slot key feed number m f n)
-            ∙ ap (λ (o : Option Offer). cond (is_key m f n key) o (offer_of books m f n)) (sym made))
-        (λ m. due m ∙ ap (λ (k : ℕ). cond (bytes_eq key.match_name m) (option_or (due_of books m) (Some k)) (due_of books m)) at_end)
-        (λ at. waits at ∙ ap (λ (k : ℕ). cond (is_none (due_of books key.match_name) && at == k) (Some key.match_name) (waits_for waiting at)) at_end)
-        was.agrees)
+      (λ m f n. offers m f n ∙ ap (λ (b : Bool). cond b (Some offer) (offer_of books m f n)) (slot_key slot key feed number m f n)
+      ∙ ap (λ (o : Option Offer). cond (is_key m f n key) o (offer_of books m f n)) (sym made))
+      (λ m. due m ∙ ap (λ (k : ℕ). cond (bytes_eq key.match_name m) (option_or (due_of books m) (Some k)) (due_of books m)) at_end)
+      (λ at. waits at ∙ ap (λ (k : ℕ). cond (is_none (due_of books key.match_name) && at == k) (Some key.match_name) (waits_for waiting at)) at_end)
+      was.agrees)
       was
 
   -- after a withdrawal
@@ -253,10 +252,10 @@ module _ {S : Type 0} (allows : List Offer → Finding → Type 0) (rules : List
       let e : Entry = record { caller = caller; event = Withdrawn key line } in
       sound_more allows rules h e capacity capacity' open_feeds books books' waiting waiting' held held may (λ f. refl) room
       (agrees_changed rules h e key.match_name books books' waiting waiting' held (withdrawn_is_quiet caller key line) (λ m. refl)
-        (λ m f n. offers m f n ∙ ap (λ (b : Bool). cond b None (offer_of books m f n)) (slot_key slot key feed number m f n))
-        (λ m. due m ∙ ap (λ (k : ℕ). cond (bytes_eq key.match_name m) (option_or (due_of books m) (Some k)) (due_of books m)) at_end)
-        (λ at. waits at ∙ ap (λ (k : ℕ). cond (is_none (due_of books key.match_name) && at == k) (Some key.match_name) (waits_for waiting at)) at_end)
-        was.agrees)
+      (λ m f n. offers m f n ∙ ap (λ (b : Bool). cond b None (offer_of books m f n)) (slot_key slot key feed number m f n))
+      (λ m. due m ∙ ap (λ (k : ℕ). cond (bytes_eq key.match_name m) (option_or (due_of books m) (Some k)) (due_of books m)) at_end)
+      (λ at. waits at ∙ ap (λ (k : ℕ). cond (is_none (due_of books key.match_name) && at == k) (Some key.match_name) (waits_for waiting at)) at_end)
+      was.agrees)
       was
 
   pub pin_is_held : (pin : Pin) (capacity open_feeds : ℕ) (books : IndexMap (List ℕ) Book S) (waiting : BTreeMap ℕ (List ℕ)) (held : BTreeMap ℕ Held) →
@@ -356,9 +355,9 @@ module _ {S : Type 0} (allows : List Offer → Finding → Type 0) (rules : List
         due = subst P since (was.due m);
         earliest = λ other place its. ⊎_elim
             (λ (before : place < first.0).
-                let V : Option (List ℕ) → Type 0 = λ there. MatchOption there ((q : List ℕ) → due_of books q ≡ Some place → ⊥) (λ q. due_of books q ≡ Some place) in
-                let nobody : (q : List ℕ) → due_of books q ≡ Some place → ⊥ = subst V (first.2 place before) (was.waits place) in
-                absurd (nobody other (known h other place (due_of books other) its (was.due other))))
+            let V : Option (List ℕ) → Type 0 = λ there. MatchOption there ((q : List ℕ) → due_of books q ≡ Some place → ⊥) (λ q. due_of books q ≡ Some place) in
+            let nobody : (q : List ℕ) → due_of books q ≡ Some place → ⊥ = subst V (first.2 place before) (was.waits place) in
+            absurd (nobody other (known h other place (due_of books other) its (was.due other))))
             (λ (past : first.0 ≤ place). past)
             (cases_lt place first.0);
       }

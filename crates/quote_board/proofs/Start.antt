@@ -1,29 +1,26 @@
 -- A board without entries.
 use Rattle.std.proofs.Common.{ℕ, ◌≡◌, ◌+◌, ◌-◌, ◌≤◌, ◌<◌, ⊎_elim, Bool, true, false, cond, List, [], ◌∷◌, length, refl, sym, ap, ◌∙◌, Some, None, arith, zero, suc, subst, replicate}
-use Rattle.std.specs.Prelude.{Option, option_and_then, slice_get, slice_set, count_by, nat_lt, MatchOption, ◌&&◌, ◌==◌, not, if◌then◌else◌, min}
+use Rattle.std.specs.Prelude.{Option, option_and_then, slice_get, slice_set, count_by, MatchOption, ◌&&◌, not, min}
 use Rattle.std.specs.Option.{is_some}
 use Rattle.std.specs.List.{range_with_len}
 use Rattle.std.specs.BTreeMap as tree
 use Rattle.std.specs.BTreeMap.{BTreeMap, btree_map_len}
 use Rattle.std.specs.Ordering.{nat_cmp}
 use Rattle.std.specs.Str.{bytes_eq}
-use Rattle.std.proofs.lemmas.Bool.{cases_lt, cases_eq, cases_Bool, lt-ltb, le-ltb}
-use Rattle.std.proofs.lemmas.Bool.Decides.{nat_tests}
+use Rattle.std.proofs.lemmas.Bool.{cases_lt, cases_eq}
 use Rattle.std.proofs.lemmas.Option.{slice_get_past}
 use Rattle.indexmap.specs.IndexMap.{IndexMap, get as entry_of}
 use Rattle.scan_types.specs.declared.limits.TheConstants.{MOST_FEEDS}
 use Rattle.scan_types.specs.declared.rule.VoidRule.{VoidRule}
 use Rattle.scan_types.specs.declared.offer.Offer.{Offer}
 use Rattle.finding_definitions.specs.declared.finding.Finding.{Finding}
-use Rattle.board_definitions.specs.declared.event.Entry.{Entry}
-use Rattle.board_definitions.specs.declared.pin.Pin.{Pin}
 use Rattle.board_definitions.specs.Entries.{rule_of}
-use Rattle.board_definitions.specs.Pins.{IsLive, IsDue, IsDueSince, HasNoPin}
+use Rattle.board_definitions.specs.Pins.{IsDue, IsDueSince, HasNoPin}
 use Rattle.board_definitions.proofs.Counts.{count_step}
 use Rattle.board_definitions.proofs.More.{nothing_is_legal, change_within}
 use Rattle.quote_board.specs.declared.book.Book.{Book}
 use Rattle.quote_board.specs.declared.held.Held.{Held}
-use Rattle.quote_board.specs.Books.{offer_in, offer_of, due_of, waits_for}
+use Rattle.quote_board.specs.Books.{offer_in, due_of, waits_for}
 use Rattle.quote_board.specs.Kept.{IsSound, IsHeld, open_count, is_open}
 use Rattle.quote_board.specs.Answers.{AreRulesOf}
 
@@ -53,8 +50,8 @@ start_count : (given : List VoidRule) (rules : List (Option VoidRule)) → AreRu
 unfolding open_count
 start_count given rules are few =
     let count : open_count rules [] ≡ min MOST_FEEDS (length given - 0) = count_prefix (is_open rules []) (length given) 0 MOST_FEEDS
-        (λ k within. ap (λ (o : Option VoidRule). is_some o && not false) (are k) ∙ ap (λ (b : Bool). b && not false) (some_within given k within))
-        (λ k past. ap (λ (o : Option VoidRule). is_some o && not false) (are k ∙ slice_get_past given k past)) in
+    (λ k within. ap (λ (o : Option VoidRule). is_some o && not false) (are k) ∙ ap (λ (b : Bool). b && not false) (some_within given k within))
+    (λ k past. ap (λ (o : Option VoidRule). is_some o && not false) (are k ∙ slice_get_past given k past)) in
     omega (arith, count, few)
 
 pub sound_start : {S : Type 0} (allows : List Offer → Finding → Type 0) (given : List VoidRule) (rules : List (Option VoidRule)) (capacity : ℕ)

@@ -1,9 +1,9 @@
 -- In a legal history, what stands has its offer.
-use Rattle.std.proofs.Common.{ℕ, ◌≡◌, ◌+◌, ◌≤◌, ◌<◌, inl, inr, ⊎_elim, Bool, true, false, cond, List, [], ◌∷◌, ◌++◌, length, take, refl, sym, ap, ◌∙◌, Some, None, arith, subst, zero, suc}
+use Rattle.std.proofs.Common.{ℕ, ◌≡◌, ◌≤◌, ◌<◌, inl, inr, ⊎_elim, Bool, true, false, cond, List, length, take, refl, sym, ap, ◌∙◌, Some, None, arith, subst, zero, suc}
 use Rattle.std.specs.Prelude.{◌⊎◌, Option, IsSome, option_and_then}
 use Rattle.std.specs.Option.{is_some}
 use Rattle.std.proofs.lemmas.List.{take_all}
-use Rattle.std.proofs.lemmas.Bool.{cases_Bool, cases_lt, both_ways}
+use Rattle.std.proofs.lemmas.Bool.{cases_Bool, cases_lt}
 use Rattle.scan_types.specs.declared.limits.TheConstants.{MOST_FEEDS, MOST_LIMIT}
 use Rattle.scan_types.specs.declared.rule.VoidRule.{VoidRule}
 use Rattle.scan_types.specs.declared.odds.Odds.{Odds}
@@ -58,16 +58,16 @@ stood_upto rules allows h m f k eight legal (suc n) within now =
     let was = stood_upto rules allows h m f k eight legal n (omega (arith, within)) in
     let P : List Entry → Type 0 = λ xs. stands xs m f k ≡ true → is_some (standing rules xs m f k) ≡ true in
     subst P (sym next.2) (λ here.
-        ⊎_elim
-        (λ (about : is_about m f k e.event ≡ true).
-            let quote : is_quote e.event ≡ true = ap (λ (b : Bool). cond b (is_quote e.event) (stands (take n h) m f k)) (sym about) ∙ sym (stands-push (take n h) e m f k) ∙ here in
-            ap (λ (o : Option Offer). is_some o) (standing-push rules (take n h) e m f k ∙ ap (λ (b : Bool). cond b (offer_of rules e.event) (standing rules (take n h) m f k)) about)
-            ∙ quote_makes rules allows (take n h) e.caller e.event eight (legal n e next.1) quote)
-        (λ (other : is_about m f k e.event ≡ false).
-            let before : stands (take n h) m f k ≡ true = ap (λ (b : Bool). cond b (is_quote e.event) (stands (take n h) m f k)) (sym other) ∙ sym (stands-push (take n h) e m f k) ∙ here in
-            ap (λ (o : Option Offer). is_some o) (standing-push rules (take n h) e m f k ∙ ap (λ (b : Bool). cond b (offer_of rules e.event) (standing rules (take n h) m f k)) other)
-            ∙ was before)
-        (cases_Bool (is_about m f k e.event))) now
+    ⊎_elim
+    (λ (about : is_about m f k e.event ≡ true).
+    let quote : is_quote e.event ≡ true = ap (λ (b : Bool). cond b (is_quote e.event) (stands (take n h) m f k)) (sym about) ∙ sym (stands-push (take n h) e m f k) ∙ here in
+    ap (λ (o : Option Offer). is_some o) (standing-push rules (take n h) e m f k ∙ ap (λ (b : Bool). cond b (offer_of rules e.event) (standing rules (take n h) m f k)) about)
+    ∙ quote_makes rules allows (take n h) e.caller e.event eight (legal n e next.1) quote)
+    (λ (other : is_about m f k e.event ≡ false).
+    let before : stands (take n h) m f k ≡ true = ap (λ (b : Bool). cond b (is_quote e.event) (stands (take n h) m f k)) (sym other) ∙ sym (stands-push (take n h) e m f k) ∙ here in
+    ap (λ (o : Option Offer). is_some o) (standing-push rules (take n h) e m f k ∙ ap (λ (b : Bool). cond b (offer_of rules e.event) (standing rules (take n h) m f k)) other)
+    ∙ was before)
+    (cases_Bool (is_about m f k e.event))) now
 
 -- in a legal history, a selection that stands has an offer
 pub stood : (rules : List (Option VoidRule)) (allows : List Offer → Finding → Type 0) (h : List Entry) (m : List ℕ) (f k : ℕ) → length rules ≡ MOST_FEEDS →

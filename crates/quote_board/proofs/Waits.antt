@@ -41,10 +41,10 @@ changed_at : (due due' : List ℕ → Option ℕ) (name : List ℕ) (n place : �
 changed_at due due' name n place new other None was = λ m now.
     ⊎_elim
     (λ (here : bytes_eq name m ≡ true).
-        let names : name ≡ m = same_name name m here in
-        let got : option_or (due m) (Some n) ≡ Some place = ap (λ (b : Bool). cond b (option_or (due m) (Some n)) (due m)) (sym here) ∙ sym (new m) ∙ now in
-        let it = given (due m) place n got (was m) in
-        both_ways _ other (and_from (is_none (due name)) (place == n) (ap (λ (q : List ℕ). is_none (due q)) names ∙ it.0) ((Decides-eqb place n).1 it.1)))
+    let names : name ≡ m = same_name name m here in
+    let got : option_or (due m) (Some n) ≡ Some place = ap (λ (b : Bool). cond b (option_or (due m) (Some n)) (due m)) (sym here) ∙ sym (new m) ∙ now in
+    let it = given (due m) place n got (was m) in
+    both_ways _ other (and_from (is_none (due name)) (place == n) (ap (λ (q : List ℕ). is_none (due q)) names ∙ it.0) ((Decides-eqb place n).1 it.1)))
     (λ (there : bytes_eq name m ≡ false). was m (ap (λ (b : Bool). cond b (option_or (due m) (Some n)) (due m)) (sym there) ∙ sym (new m) ∙ now))
     (cases_Bool (bytes_eq name m))
 changed_at due due' name n place new other (Some m) was = new m ∙ kept_some (bytes_eq name m) (due m) place n was
@@ -58,16 +58,16 @@ waits_changed_at due due' waits waits' name n new map was place =
     let P : Option (List ℕ) → Type 0 = λ there. WaitsAt due' there place in
     ⊎_elim
     (λ (here : (is_none (due name) && place == n) ≡ true).
-        let parts = and_parts (is_none (due name)) (place == n) here in
-        let at : place ≡ n = (Decides-eqb place n).0 parts.1 in
-        let is : waits' place ≡ Some name = map place ∙ ap (λ (b : Bool). cond b (Some name) (waits place)) here in
-        let now : due' name ≡ Some place =
-            new name ∙ ap (λ (b : Bool). cond b (option_or (due name) (Some n)) (due name)) (itself name)
-            ∙ ap (λ (o : Option ℕ). option_or o (Some n)) (none_is (due name) parts.0) ∙ ap Some (sym at) in
-        subst P (sym is) now)
+    let parts = and_parts (is_none (due name)) (place == n) here in
+    let at : place ≡ n = (Decides-eqb place n).0 parts.1 in
+    let is : waits' place ≡ Some name = map place ∙ ap (λ (b : Bool). cond b (Some name) (waits place)) here in
+    let now : due' name ≡ Some place =
+    new name ∙ ap (λ (b : Bool). cond b (option_or (due name) (Some n)) (due name)) (itself name)
+    ∙ ap (λ (o : Option ℕ). option_or o (Some n)) (none_is (due name) parts.0) ∙ ap Some (sym at) in
+    subst P (sym is) now)
     (λ (there : (is_none (due name) && place == n) ≡ false).
-        let is : waits' place ≡ waits place = map place ∙ ap (λ (b : Bool). cond b (Some name) (waits place)) there in
-        subst P (sym is) (changed_at due due' name n place new there (waits place) (was place)))
+    let is : waits' place ≡ waits place = map place ∙ ap (λ (b : Bool). cond b (Some name) (waits place)) there in
+    subst P (sym is) (changed_at due due' name n place new there (waits place) (was place)))
     (cases_Bool (is_none (due name) && place == n))
 
 cleared : (due due' : List ℕ → Option ℕ) (name : List ℕ) (place : ℕ) → ((m : List ℕ) → due' m ≡ cond (bytes_eq name m) None (due m)) →
@@ -75,8 +75,8 @@ cleared : (due due' : List ℕ → Option ℕ) (name : List ℕ) (place : ℕ) �
 cleared due due' name place new m now =
     ⊎_elim
     (λ (here : bytes_eq name m ≡ true).
-        let none : None ≡ Some place = ap (λ (b : Bool). cond b None (due m)) (sym here) ∙ sym (new m) ∙ now in
-        absurd (cc none))
+    let none : None ≡ Some place = ap (λ (b : Bool). cond b None (due m)) (sym here) ∙ sym (new m) ∙ now in
+    absurd (cc none))
     (λ (there : bytes_eq name m ≡ false). (there, ap (λ (b : Bool). cond b None (due m)) (sym there) ∙ sym (new m) ∙ now))
     (cases_Bool (bytes_eq name m))
 
@@ -108,13 +108,13 @@ waits_pinned_at due due' waits waits' name new map apart was place =
     let P : Option (List ℕ) → Type 0 = λ there. WaitsAt due' there place in
     ⊎_elim
     (λ (here : option_map_or (λ p. p == place) (due name) false ≡ true).
-        let is : waits' place ≡ None = map place ∙ ap (λ (b : Bool). cond b None (waits place)) here in
-        let due_here : due name ≡ Some place = is_place (due name) place here in
-        let none : (m : List ℕ) → due' m ≡ Some place → ⊥ = λ m now.
-            let it = cleared due due' name place new m now in
-            both_ways _ it.0 ((bytes_eq-Decides name m).1 (apart name m place due_here it.1)) in
-        subst P (sym is) none)
+    let is : waits' place ≡ None = map place ∙ ap (λ (b : Bool). cond b None (waits place)) here in
+    let due_here : due name ≡ Some place = is_place (due name) place here in
+    let none : (m : List ℕ) → due' m ≡ Some place → ⊥ = λ m now.
+    let it = cleared due due' name place new m now in
+    both_ways _ it.0 ((bytes_eq-Decides name m).1 (apart name m place due_here it.1)) in
+    subst P (sym is) none)
     (λ (there : option_map_or (λ p. p == place) (due name) false ≡ false).
-        let is : waits' place ≡ waits place = map place ∙ ap (λ (b : Bool). cond b None (waits place)) there in
-        subst P (sym is) (pinned_at due due' name place new (not_place (due name) place there) (waits place) (was place)))
+    let is : waits' place ≡ waits place = map place ∙ ap (λ (b : Bool). cond b None (waits place)) there in
+    subst P (sym is) (pinned_at due due' name place new (not_place (due name) place there) (waits place) (was place)))
     (cases_Bool (option_map_or (λ p. p == place) (due name) false))

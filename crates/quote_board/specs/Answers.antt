@@ -1,5 +1,5 @@
 -- The answers of a board.
-use Rattle.std.specs.Prelude.{ℕ, ◌≡◌, ◌≤◌, ◌-◌, ◌++◌, Bool, false, List, length, take, drop, min, IsSome, Option, slice_get}
+use Rattle.std.specs.Prelude.{ℕ, ◌≡◌, ◌≤◌, ◌-◌, ◌++◌, false, List, length, take, drop, min, IsSome, Option, slice_get}
 use Rattle.scan_types.specs.declared.rule.VoidRule.{VoidRule}
 use Rattle.scan_types.specs.declared.offer.Offer.{Offer}
 use Rattle.board_definitions.specs.declared.event.Event.TheVariants as event

@@ -1,5 +1,5 @@
 -- What the board keeps besides its history, and how it agrees with it.
-use Rattle.std.specs.Prelude.{ℕ, ◌≡◌, ◌+◌, ◌≤◌, ◌&&◌, Bool, not, List, length, count_by, Option, Some, None, MatchOption, vec_capacity}
+use Rattle.std.specs.Prelude.{ℕ, ◌≡◌, ◌+◌, ◌≤◌, ◌&&◌, Bool, not, List, length, count_by, Option, Some, MatchOption}
 use Rattle.std.specs.Option.{is_some}
 use Rattle.std.specs.List.{range_with_len}
 use Rattle.std.specs.BTreeMap.{BTreeMap, get, btree_map_len}

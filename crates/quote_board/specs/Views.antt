@@ -1,5 +1,5 @@
 -- What contracts see of a board.
-use Rattle.std.specs.Prelude.{ℕ, ◌≡◌, List, [], ◌∷◌, ◌++◌, length}
+use Rattle.std.specs.Prelude.{ℕ, List, [], ◌∷◌, ◌++◌}
 use Rattle.board_definitions.specs.declared.event.Event.{Event}
 use Rattle.board_definitions.specs.declared.event.Entry.{Entry}
 use Rattle.quote_board.specs.declared.part.BoardPart.{BoardPart}

@@ -251,8 +251,7 @@ impl<W: Law> Board<W> {
     {
         let version = self.history.len() as u64;
         let offers = copy_sheet(&self.books, self.alloc, match_name)?;
-        self.history
-            .reserve(self.pins.len() + self.open_feeds + 2)?;
+        self.history.reserve(self.pins.len() + self.open_feeds + 2)?;
         let held = Held {
             version,
             match_name,
@@ -317,10 +316,8 @@ impl<W: Law> Board<W> {
         ensures { self.new ≡ with_entry self.old pin.caller (event.Released pin.version) }
     {
         self.pins.remove(&pin.caller);
-        let event = Event::Released {
-            version: pin.version,
-        };
-        add(&mut self.history, pin.caller, event);
+        let version = pin.version;
+        add(&mut self.history, pin.caller, Event::Released { version });
     }
 
     /// The history, which is legal.
