@@ -18,3 +18,6 @@ pub use fault::FindingFault;
 pub use finding_definitions::{Finding, Measure, Parts, Stage, Stakes, WideAt};
 pub use reading::read_finding;
 pub use writing::put_finding;
+
+#[cfg(test)]
+mod tests;

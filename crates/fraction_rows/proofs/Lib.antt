@@ -5,3 +5,4 @@ pub mod Quotients
 pub mod Scan
 pub mod ShortProducts
 pub mod Written
+pub mod WrittenCombination

@@ -11,6 +11,7 @@ use Rattle.row_definitions.specs.Combination.{FitsEntry}
 use Rattle.row_definitions.proofs.Divisors.{Divides, row_divisor_is, All-from_Divides, Divides-from_All}
 use Rattle.row_definitions.proofs.Primitives.{primitive_row-undivided}
 use Rattle.row_definitions.proofs.Combinations.{entry-divided}
+use Rattle.fraction_rows.specs.BitLengths.{HasBits}
 use Rattle.fraction_rows.proofs.Written.{written, set-written, entry-written}
 use Rattle.fraction_rows.proofs.Scan.{Divides-more}
 use Rattle.fraction_rows.proofs.Inverses.{multiplied_back}
@@ -39,6 +40,12 @@ pub multiple-lowered : (old row : List ℤ) (x : ℤ) (e d g : ℕ) → row ≡ 
 multiple-lowered old row x e d g same multiple within is gcd =
     let divides : row_divisor old ∣ unsigned_abs x = All-contains (λ y. row_divisor old ∣ unsigned_abs y) old x (All-from_Divides (row_divisor old) old (row_divisor_is old).0) (subst (λ r. Contains r x) same within) in
     gcd.2 (row_divisor old) (subst (λ n. row_divisor old ∣ n) (sym is) divides) multiple
+
+-- the quotients have so many bits, where each quotient of a number of the row has
+pub All-quotients : (d bits after : ℕ) (row : List ℤ) → ((x : ℤ) → HasBits bits x → d ∣ unsigned_abs x → HasBits after (divided d x)) → All (HasBits bits) row → Divides d row → All (HasBits after) (map (divided d) row)
+All-quotients d bits after [] each has divides = All-nil (HasBits after)
+All-quotients d bits after (x ∷ row) each has divides =
+    All-cons (HasBits after) (divided d x) (map (divided d) row) (each x (All-head (HasBits bits) x row has) divides.0) (All-quotients d bits after row each (All-tail (HasBits bits) x row has) divides.1)
 
 -- a number that does not divide another is above the common divisor of both
 pub lowered : (x : ℤ) (f e d g : ℕ) → 1 < d → f ≡ d → ¬ (f ∣ unsigned_abs x) → e ≡ unsigned_abs x → IsGcd e d g → g < d

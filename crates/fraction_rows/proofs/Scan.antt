@@ -61,11 +61,6 @@ above_zero_at x d g some step none = some (zero_from_size x (eq-zero_of_zero-dvd
 pub row_divisor-all : (row : List ℤ) (i g : ℕ) → IsRowGcd (take i row) g → length row ≤ i → g ≡ row_divisor row
 row_divisor-all row i g is whole = row_divisor_from row g (subst (λ r. IsRowGcd r g) (take_all i row whole) is)
 
--- ---- two numbers
-
-pub row_divisor-pair : (x y : ℤ) (g : ℕ) → IsGcd (unsigned_abs x) (unsigned_abs y) g → g ≡ row_divisor (x ∷ y ∷ [])
-row_divisor-pair x y g is = row_divisor_from (x ∷ y ∷ []) g ((is.0, (is.1, tt)), λ d w. is.2 d w.0 w.1.0)
-
 -- ---- the size of the divisor
 
 below_or_zeros : (g : ℕ) (row : List ℤ) → Divides g row → All FitsEntry row → (g < 2 ^ 127) ⊎ Divides 0 row
@@ -89,7 +84,44 @@ row_divisor-lt row fits =
       | inr zeros ↦ subst (λ n. n < 2 ^ 127) (sym (eq-zero_of_zero-dvd (is.1 0 zeros))) (lit< tt)
     ]
 
--- and so does that of the first entries
+-- ---- with a bound ahead of the entries
+
+-- before an entry is read
+pub bounded-none : (bound : ℕ) → IsRowGcd (pos bound ∷ []) bound
+bounded-none bound = ((dvd_refl bound, tt), λ d w. w.0)
+
+-- one more entry is read
+pub bounded-more : (bound : ℕ) (row : List ℤ) (i g h : ℕ) → i < length row → IsRowGcd (pos bound ∷ take i row) h → IsGcd (unsigned_abs (entry row i)) h g → IsRowGcd (pos bound ∷ take (i + 1) row) g
+bounded-more bound row i g h below is step =
+    subst (λ r. IsRowGcd (pos bound ∷ r) g) (sym (take_more row i (pos 0) below)) (IsRowGcd-push (pos bound ∷ take i row) (entry row i) g h is step)
+
+-- one more entry is read, which is 0
+pub bounded-zero : (bound : ℕ) (row : List ℤ) (i d : ℕ) → i < length row → IsRowGcd (pos bound ∷ take i row) d → entry row i ≡ pos 0 → IsRowGcd (pos bound ∷ take (i + 1) row) d
+bounded-zero bound row i d below is zero_there =
+    let divides : d ∣ unsigned_abs (entry row i) = subst (λ z. d ∣ unsigned_abs z) (sym zero_there) (dvd-zero d) in
+    bounded-more bound row i d d below is (divides, dvd_refl d, λ k w h. h)
+
+-- the divisor of the row divides that of the bound and the first entries
+pub bounded-first : (bound : ℕ) (row : List ℤ) (i g : ℕ) → row_divisor row ∣ bound → IsRowGcd (pos bound ∷ take i row) g → row_divisor row ∣ g
+bounded-first bound row i g divides is = is.1 (row_divisor row) (divides, Divides-take (row_divisor row) i row (row_divisor_is row).0)
+
+-- it is 0 only of zeros, when all entries are read
+pub bounded-all : (bound : ℕ) (row : List ℤ) (i g : ℕ) → IsRowGcd (pos bound ∷ take i row) g → length row ≤ i → g ≡ 0 → row_divisor row ≡ 0
+bounded-all bound row i g is whole none =
+    eq-zero_of_zero-dvd ((row_divisor_is row).1 0 (subst (Divides 0) (take_all i row whole) (subst (λ d. Divides d (take i row)) none is.0.1)))
+
+-- and it fits where the bound and the entries do
+pub bounded-lt : (bound : ℕ) (row : List ℤ) (i d : ℕ) → bound < 2 ^ 127 → All FitsEntry row → IsRowGcd (pos bound ∷ take i row) d → d < 2 ^ 127
+bounded-lt bound row i d bound_fits fits is =
+    subst (λ n. n < 2 ^ 127) (sym (row_divisor_from (pos bound ∷ take i row) d is)) (row_divisor-lt (pos bound ∷ take i row) (All-cons FitsEntry (pos bound) (take i row) bound_fits (All-take FitsEntry i row fits)))
+
+-- ---- two numbers
+
+pub row_divisor-pair : (x y : ℤ) (g : ℕ) → IsGcd (unsigned_abs x) (unsigned_abs y) g → g ≡ row_divisor (x ∷ y ∷ [])
+row_divisor-pair x y g is = row_divisor_from (x ∷ y ∷ []) g ((is.0, (is.1, tt)), λ d w. is.2 d w.0 w.1.0)
+
+-- ---- the size of the divisor, and of that of the first entries
+
 pub IsRowGcd-lt : (row : List ℤ) (i d : ℕ) → All FitsEntry row → IsRowGcd (take i row) d → d < 2 ^ 127
 IsRowGcd-lt row i d fits is = subst (λ n. n < 2 ^ 127) (sym (row_divisor_from (take i row) d is)) (row_divisor-lt (take i row) (All-take FitsEntry i row fits))
 

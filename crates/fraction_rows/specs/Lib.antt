@@ -1,3 +1,4 @@
 pub mod BitLengths
 pub mod Combinable
+pub mod Divisors
 pub mod Exact

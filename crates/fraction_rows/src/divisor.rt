@@ -35,16 +35,21 @@ fn narrow_divisor(a: u64, b: u64) -> u64
     x
 }
 
-// The greatest common divisor of the row's first entries, up to one, other than 0, that it divides, or up to where it is
-// 1; of all entries where there is no such, so 0 only of zeros. It will mostly divide the rest too, which shows while they
-// are divided.
-pub(crate) fn divisor_of_first(row: &[i128]) -> u128
-    requires { All FitsEntry row.now }
+// The greatest common divisor of the bound, which the row's divisor divides, and of the row's first entries, up to one, other
+// than 0, that it divides, or up to where it is 1; of all entries where there is no such, so 0 only of zeros. It will mostly
+// divide the rest too, which shows while they are divided.
+pub(crate) fn divisor_of_first(row: &[i128], bound: u128) -> u128
+    requires fits { All FitsEntry row.now }
+    requires bound { row_divisor row.now ∣ bound }
+    requires bound_fits { bound < 2 ^ 127 }
     ensures multiple { row_divisor row.now ∣ result }
     ensures fits { result < 2 ^ 127 }
     ensures zeros { result ≡ 0 → row_divisor row.now ≡ 0 }
 {
-    let mut divisor = 0;
+    if bound == 1 {
+        return 1;
+    }
+    let mut divisor = bound;
     for x in row {
         if *x == 0 {
             continue;

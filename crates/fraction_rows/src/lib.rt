@@ -13,9 +13,10 @@ mod combination;
 mod division;
 mod divisor;
 mod exact;
+mod writing;
 
 pub use bits::bit_length;
-pub use combination::{Passed, combine, combine_within, first_passing};
+pub use combination::{Passed, combine, combine_within, content_bound, first_passing};
 pub use division::primitive;
 
 #[cfg(test)]

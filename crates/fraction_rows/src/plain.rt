@@ -8,8 +8,9 @@ ghost use Rattle.row_definitions.specs.Rows.{row_divisor, primitive_row};
 ghost use Rattle.row_definitions.specs.Combination.{FitsEntry, PassesNowhere, PassesFirst, combined, target_factor, pivot_factor};
 ghost use Rattle.fraction_rows.specs.Combinable.{Combinable};
 
-use crate::combination::{Factors, Passed, checked_entry, fitting_entry};
+use crate::combination::{Factors, Passed, checked_entry};
 use crate::divisor::quotient;
+use crate::writing::fitting_entry;
 
 pub(crate) fn plain_primitive(row: &mut [i128])
     requires { All FitsEntry row.old }

@@ -44,7 +44,7 @@ fn tests_before_it_combines(rt: HostRuntime) {
         first_passing(&target, target_bits, &pivot, bit_length(&pivot), 0),
         None
     );
-    combine_within(&mut target, &pivot, 0);
+    combine_within(&mut target, target_bits, &pivot, bit_length(&pivot), 0, 0);
     assert_eq!(rt; target, [0, 1]);
 }
 

@@ -1,5 +1,6 @@
 -- When one row of a tableau can be combined with another in a column.
-use Rattle.std.specs.Prelude.{◌≡◌, ℕ, ◌<◌, ◌^◌, List, length, ℤ}
+use Rattle.std.specs.Prelude.{◌≡◌, ℕ, ◌<◌, ◌^◌, List, length, Option, ℤ}
+use Rattle.std.specs.Option.{ForSome}
 use Rattle.row_definitions.specs.Rows.{primitive_row}
 use Rattle.fraction_rows.specs.Combinable as fraction_rows
 
@@ -8,5 +9,11 @@ pub record Combinable (target pivot : List ℤ) (column : ℕ) : Type 0 where
   pub rows : fraction_rows.Combinable target pivot column
   -- of fewer columns than a `u32` counts
   pub columns : length target < 2 ^ 32
-  -- and the target is kept divided
+  -- and both are kept divided
   pub primitive : primitive_row target ≡ target
+  pub pivot_primitive : primitive_row pivot ≡ pivot
+
+-- the pivot is 0 in the column that is basic in the target, where there is one, and the target in the column that leaves
+pub record AreApart (target pivot : List ℤ) (own : Option ℕ) (leaving : ℕ) : Type 0 where
+  pub own_zero : ForSome own (λ column. fraction_rows.IsZeroIn pivot column)
+  pub leaving_zero : fraction_rows.IsZeroIn target leaving

@@ -1,8 +1,8 @@
-ghost use Rattle.std.specs.Prelude.{◌≡◌, ◌≢◌, ℕ, ◌<◌, [], length, map, slice_index_or, pos, ◌<ℤ◌, OnOk, OnErr, IfErr, IfSome, IfNone};
-ghost use Rattle.std.specs.List.{All};
+ghost use Rattle.std.specs.Prelude.{◌≡◌, ◌≢◌, ℕ, ◌<◌, [], length, map, slice_get, slice_index, slice_index_or, pos, ◌<ℤ◌, OnOk, OnErr, IfErr, IfSome, IfNone};
+ghost use Rattle.std.specs.List.{All, Contains};
 ghost use Rattle.row_definitions.specs.Combination.{PassesNowhere, combined};
 ghost use Rattle.pivot_definitions.specs.Tableaus.{column_count, entry_at, others_combined, HasSameShape, IsKeptPivot, PivotFits, PivotPassesFirst};
-ghost use Rattle.fraction_tableau.specs.Combinable.{Combinable};
+ghost use Rattle.fraction_tableau.specs.Combinable.{Combinable, AreApart};
 
 use crate::row::Row;
 use crate::tableau::Tableau;
@@ -18,12 +18,13 @@ pub struct Passed2 {
 
 impl Tableau {
     /// Makes a column basic in a row of the program: every other row becomes 0 in the column. The row's entry there is
-    /// above 0. Where a number would pass 128 bits, the first place is answered, rows rising with the objective row last,
+    /// above 0, and the column is not basic yet. Where a number would pass 128 bits, the first place is answered, rows rising with the objective row last,
     /// and the tableau stays as it was. Takes no memory.
     pub fn pivot(&mut self, row: u32, column: u32) -> Result<(), Passed2>
         requires row { row < length self.old.basis }
         requires column { column < column_count self.old }
         requires positive { pos 0 <ℤ entry_at self.old row column }
+        requires not_basic { ¬ Contains self.old.basis column }
 
         ensures ok { OnOk result (IsKeptPivot self.old row column self.new) }
         ensures fits { OnOk result (PivotFits self.old row column) }
@@ -36,7 +37,7 @@ impl Tableau {
         if let Some(place) = self.first_passing(row as usize, column as usize) {
             return Err(place);
         }
-        combine_others(&mut self.rows, row as usize, column as usize);
+        combine_others(&mut self.rows, &self.basis, row as usize, column as usize);
         self.basis[row as usize] = column;
         Ok(())
     }
@@ -65,24 +66,39 @@ impl Tableau {
     }
 }
 
-// Combines each row but one with that one.
-fn combine_others(rows: &mut [Row], row: usize, column: usize)
+// Combines each row but one with that one. The objective row, which is the last, has no basic column.
+fn combine_others(rows: &mut [Row], basis: &[u32], row: usize, column: usize)
     requires within { row < length rows.old }
+    requires basis { row < length basis.now }
+    requires apart { (other : ℕ) → other < length rows.old → other ≢ row → AreApart (slice_index_or rows.old other []) (slice_index_or rows.old row []) (slice_get basis.now other) (slice_index basis.now row) }
     requires combinable { (other : ℕ) → other < length rows.old → other ≢ row → Combinable (slice_index_or rows.old other []) (slice_index_or rows.old row []) column × PassesNowhere (slice_index_or rows.old other []) (slice_index_or rows.old row []) column }
     ensures { rows.new ≡ others_combined (λ target. combined target (slice_index_or rows.old row []) column) rows.old row }
 {
     let (before, rest) = rows.split_at_mut(row);
     let (pivot, after) = rest.split_at_mut(1);
-    combine_each(before, &pivot[0], column);
-    combine_each(after, &pivot[0], column);
+    let leaving = basis[row] as usize;
+    combine_each(before, basis, &pivot[0], leaving, column);
+    combine_each(after, &basis[row + 1..], &pivot[0], leaving, column);
 }
 
 // Combines each row with the pivot row.
-fn combine_each(rows: &mut [Row], pivot: &Row, column: usize)
-    requires { All (λ target. Combinable target pivot.now column × PassesNowhere target pivot.now column) rows.old }
+fn combine_each(rows: &mut [Row], basis: &[u32], pivot: &Row, leaving: usize, column: usize)
+    requires combinable { All (λ target. Combinable target pivot.now column × PassesNowhere target pivot.now column) rows.old }
+    requires apart { (k : ℕ) → k < length rows.old → AreApart (slice_index_or rows.old k []) pivot.now (slice_get basis.now k) leaving }
     ensures { rows.new ≡ map (λ target. combined target pivot.now column) rows.old }
 {
-    for target in rows.iter_mut() {
-        target.combine(pivot, column);
+    for row in 0..rows.len() {
+        rows[row].combine(basic_of(basis, row), pivot, leaving, column);
+    }
+}
+
+// The column that is basic in a row, where one is.
+fn basic_of(basis: &[u32], row: usize) -> Option<usize>
+    ensures { result ≡ slice_get basis.now row }
+{
+    if row < basis.len() {
+        Some(basis[row] as usize)
+    } else {
+        None
     }
 }

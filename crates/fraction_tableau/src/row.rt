@@ -1,15 +1,14 @@
 ghost use Rattle.std.specs.Prelude.{◌≡◌, ◌<◌, ◌++◌, replicate, IfOk, pos, IfSome, IfNone};
-ghost use Rattle.std.specs.List.{All};
-ghost use Rattle.row_definitions.specs.Combination.{FitsEntry, combined, PassesNowhere, PassesFirst};
+ghost use Rattle.row_definitions.specs.Combination.{combined, PassesNowhere, PassesFirst};
 ghost use Rattle.pivot_definitions.specs.Tableaus.{built_row, built_objective};
-ghost use Rattle.fraction_tableau.specs.Combinable.{Combinable};
+ghost use Rattle.fraction_tableau.specs.Combinable.{Combinable, AreApart};
 
 use crate::program::Program;
-use fraction_rows::bit_length;
+use fraction_rows::{bit_length, combine_within, content_bound};
 use std::alloc::{AllocError, Global};
 use std::marker::Model;
 
-// One row of a tableau. Only this module knows where a row's numbers are. With them stands how many bits they have, by which
+// One row of a tableau. Only this module knows where a row's numbers are. With them stands how many bits are enough, by which
 // a pivot mostly sees that a combination passes nowhere and forms no product to test it.
 #[derive(Debug, Drop)]
 pub(crate) struct Row {
@@ -19,13 +18,14 @@ pub(crate) struct Row {
 
 impl Model for Row {
     ghost use Rattle.std.specs.Prelude.{List, ℤ};
-    ghost use Rattle.fraction_rows.specs.BitLengths.{IsBitLength};
+    ghost use Rattle.std.specs.List.{All};
+    ghost use Rattle.fraction_rows.specs.BitLengths.{HasBits};
 
     ghost Value = { List ℤ };
 
     ghost view = { λ r. r.entries.items };
 
-    ghost invariant = { λ r. IsBitLength r.entries.items r.bits };
+    ghost invariant = { λ r. All (HasBits r.bits) r.entries.items };
 }
 
 impl Row {
@@ -92,18 +92,26 @@ impl Row {
         )
     }
 
-    // Makes the row 0 in the column by the combination with the pivot row. Where the row is changed, one more scan sees
-    // how many bits it has now.
-    pub(crate) fn combine(&mut self, pivot: &Row, column: usize)
+    // Makes the row 0 in the column by the combination with the pivot row. `own` is the column that is basic in the row, and
+    // `leaving` the one that is basic in the pivot row.
+    pub(crate) fn combine(&mut self, own: Option<usize>, pivot: &Row, leaving: usize, column: usize)
         requires combinable { Combinable self.old pivot.now column }
+        requires apart { AreApart self.old pivot.now own leaving }
         requires passes_nowhere { PassesNowhere self.old pivot.now column }
-        ensures value { self.new ≡ combined self.old pivot.now column }
-        ensures fits { All FitsEntry self.new }
+        ensures { self.new ≡ combined self.old pivot.now column }
     {
-        if self.entries[column] != 0 {
-            fraction_rows::combine_within(self.entries.as_mut_slice(), pivot.entries(), column);
-            self.bits = bit_length(&self.entries);
+        if self.entries[column] == 0 {
+            return;
         }
+        let bound = content_bound(self.entries(), pivot.entries(), column, own, leaving);
+        self.bits = combine_within(
+            self.entries.as_mut_slice(),
+            self.bits,
+            pivot.entries(),
+            pivot.bits,
+            column,
+            bound,
+        );
     }
 }
 

@@ -1,6 +1,7 @@
-ghost use Rattle.std.specs.Prelude.{◌≡◌, ◌+◌, ◌<◌, ◌≤◌, length, ◌==◌, IfOk, IfSome, position};
+ghost use Rattle.std.specs.Prelude.{◌≡◌, ◌+◌, ◌<◌, ◌≤◌, ◌↔◌, length, ◌==◌, IfOk, OnOk, OnErr, IfSome, IsTrue, position};
+ghost use Rattle.std.specs.List.{Contains};
 ghost use Rattle.row_definitions.specs.Combination.{FitsEntry};
-ghost use Rattle.pivot_definitions.specs.Tableaus.{IsKeptTableau, column_count, entry_at, right_side, objective, basic_column, multiplier_of, IsValueOf, built};
+ghost use Rattle.pivot_definitions.specs.Tableaus.{IsKeptTableau, column_count, entry_at, right_side, objective, basic_column, multiplier_of, IsValueOf, built, empty_tableau};
 
 use crate::program::Program;
 use crate::row::Row;
@@ -9,7 +10,8 @@ use std::marker::Model;
 use want_of_memory::WantOfMemory;
 
 /// A simplex tableau: a row for each row of the program, and the objective row, over the program's columns, a slack
-/// column for each row, and the right side. Each row is divided by the greatest common divisor of its entries.
+/// column for each row, and the right side. Each row is divided by the greatest common divisor of its entries. An empty
+/// tableau has no columns and no rows.
 #[derive(Debug, Drop)]
 pub struct Tableau {
     pub(crate) columns: u32,
@@ -18,16 +20,27 @@ pub struct Tableau {
 }
 
 impl Model for Tableau {
-    ghost use Rattle.pivot_definitions.specs.Tableaus.{SimplexTableau, IsKeptTableau};
+    ghost use Rattle.pivot_definitions.specs.Tableaus.{SimplexTableau, IsKeptOrEmpty};
 
     ghost Value = { SimplexTableau };
 
     ghost view = { λ t. record { columns = t.columns; rows = t.rows.items; basis = t.basis.items } };
 
-    ghost invariant = { λ t. IsKeptTableau (record { columns = t.columns; rows = t.rows.items; basis = t.basis.items }) };
+    ghost invariant = { λ t. IsKeptOrEmpty (record { columns = t.columns; rows = t.rows.items; basis = t.basis.items }) };
 }
 
 impl Tableau {
+    /// An empty tableau. Takes no memory.
+    pub fn empty(alloc: Global) -> Tableau
+        ensures { result ≡ empty_tableau }
+    {
+        Tableau {
+            columns: 0,
+            rows: Vec::new(alloc),
+            basis: Vec::new(alloc),
+        }
+    }
+
     /// The tableau of a program as built: the slack columns are basic. Takes memory for a number a place.
     pub fn build(alloc: Global, program: &Program) -> Result<Tableau, WantOfMemory>
         ensures { IfOk result (λ tableau. tableau ≡ built program.now) }
@@ -48,22 +61,34 @@ impl Tableau {
         })
     }
 
-    /// How many columns the program has: from 1 to 2,048.
+    /// Makes it the tableau of a program as built, whatever it was before. It is empty where no memory is left. What it held is
+    /// given back first, so never more memory is taken than one tableau needs.
+    pub fn rebuild(&mut self, alloc: Global, program: &Program) -> Result<(), WantOfMemory>
+        ensures ok { OnOk result (self.new ≡ built program.now) }
+        ensures err { OnErr result (self.new ≡ empty_tableau) }
+    {
+        *self = Tableau::empty(alloc);
+        *self = Tableau::build(alloc, program)?;
+        Ok(())
+    }
+
+    /// How many columns the program has: from 1 to 2,048, and 0 where the tableau is empty.
     pub fn columns(&self) -> u32
         ensures value { result ≡ self.now.columns }
-        ensures some { 0 < result }
         ensures few { result ≤ 2048 }
+        // Every tableau that is not empty is one in kept and canonical form.
+        ensures kept { 0 < result → IsKeptTableau self.now }
     {
         self.columns
     }
 
-    /// How many rows the program has, which is how many constraint rows there are: from 1 to 2,048.
+    /// How many rows the program has, which is how many constraint rows there are: from 1 to 2,048, and 0 where the tableau
+    /// is empty.
     pub fn rows(&self) -> u32
         ensures value { result ≡ length self.now.basis }
-        ensures some { 0 < result }
         ensures few { result ≤ 2048 }
-        // Every tableau is one in kept form.
-        ensures kept { IsKeptTableau self.now }
+        // Every tableau that is not empty is one in kept and canonical form.
+        ensures kept { 0 < result → IsKeptTableau self.now }
     {
         self.basis.len() as u32
     }
@@ -77,8 +102,10 @@ impl Tableau {
         self.basis[row as usize]
     }
 
-    /// The entry of a row in a column; the objective row is the last, and the right side the last column.
+    /// The entry of a row in a column; the objective row is the last, and the right side the last column. The tableau is not
+    /// empty.
     pub fn entry(&self, row: u32, column: u32) -> i128
+        requires some { 0 < column_count self.now }
         requires row { row < length self.now.basis + 1 }
         requires column { column < column_count self.now + 1 }
         ensures value { result ≡ entry_at self.now row column }
@@ -96,9 +123,10 @@ impl Tableau {
         self.entry(row, self.columns + self.rows())
     }
 
-    /// The entry of the objective row in a column.
+    /// The entry of the objective row in a column. The tableau is not empty.
     pub fn objective(&self, column: u32) -> i128
-        requires { column < column_count self.now + 1 }
+        requires some { 0 < column_count self.now }
+        requires column { column < column_count self.now + 1 }
         ensures value { result ≡ objective self.now column }
         ensures fits { FitsEntry result }
     {
@@ -121,9 +149,16 @@ impl Tableau {
     fn row_of(&self, column: u32) -> Option<usize>
         ensures value { result ≡ position (λ basic. basic == column) self.now.basis }
         ensures within { IfSome result (λ row. row < length self.now.basis) }
-        ensures kept { IsKeptTableau self.now }
+        ensures few { length self.now.basis ≤ 2048 }
     {
         self.basis.iter().position(|basic| *basic == column)
+    }
+
+    /// Whether a column is basic in some row.
+    pub fn is_basic(&self, column: u32) -> bool
+        ensures { IsTrue result ↔ Contains self.now.basis column }
+    {
+        self.basis.contains(&column)
     }
 
     /// The multiplier of a row of the program: the negative of the objective row's entry in the row's slack column.

@@ -33,11 +33,13 @@ fn pivoted(rt: &impl Abort, tableau: &mut Tableau, row: u32, column: u32) -> Res
     ensures { HasSameShape tableau.old tableau.new }
 {
     assert!(rt; tableau.entry(row, column) > 0);
+    assert!(rt; !tableau.is_basic(column));
     tableau.pivot(row, column)
 }
 
 fn entries(alloc: Global, tableau: &Tableau, row: u32) -> Result<Vec<i128>, Fail>
-    requires { row < length tableau.now.basis + 1 }
+    requires some { 0 < column_count tableau.now }
+    requires row { row < length tableau.now.basis + 1 }
 {
     let mut entries = Vec::new(alloc);
     for column in 0..tableau.columns() + tableau.rows() + 1 {
@@ -140,13 +142,13 @@ fn row(alloc: Global, numbers: &[i128]) -> Result<Row, Fail>
     Ok(Row::of(numbers.to_vec(alloc)?))
 }
 
-// A tableau that no program builds: one constraint row, and an objective row whose second number is large.
+// A tableau that no program builds: one constraint row, and an objective row whose right side is large.
 fn large_objective(alloc: Global) -> Result<Tableau, Fail>
     ensures { IfOk result (λ tableau. (tableau.columns ≡ 1) × (length tableau.basis ≡ 1)) }
 {
     let mut rows = Vec::new(alloc);
     rows.push(row(alloc, &[3, 1, 0])?)?;
-    rows.push(row(alloc, &[1, LARGE, 0])?)?;
+    rows.push(row(alloc, &[1, 0, LARGE])?)?;
     let mut basis = Vec::new(alloc);
     basis.push(1)?;
     Ok(Tableau {
@@ -162,11 +164,11 @@ fn passes_in_the_objective_row(rt: HostRuntime) -> Result<(), Fail> {
     let mut tableau = large_objective(rt.alloc())?;
     assert_eq!(rt;
         pivoted(&rt, &mut tableau, 0, 0),
-        Err(Passed2 { row: 1, column: 1 })
+        Err(Passed2 { row: 1, column: 2 })
     );
     assert_eq!(rt;
         entries(rt.alloc(), &tableau, 1)?.as_slice(),
-        [1, LARGE, 0].as_slice()
+        [1, 0, LARGE].as_slice()
     );
     assert_eq!(rt; tableau.rows(), 1);
     assert_eq!(rt; tableau.basic(0), 1);

@@ -10,7 +10,7 @@ use Rattle.row_definitions.specs.Rows.{entry, primitive_row}
 use Rattle.row_definitions.proofs.Primitives.{primitive_row-unit}
 use Rattle.row_definitions.specs.Combination.{FitsEntry}
 use Rattle.pivot_definitions.specs.Programs.{LinearProgram, IsProgram, FitsEntries, coefficient_row, unit_row}
-use Rattle.pivot_definitions.specs.Tableaus.{IsTableau, HasFittingEntries, HasPrimitiveRows, IsKeptTableau, built, built_row, built_objective, column_count}
+use Rattle.pivot_definitions.specs.Tableaus.{IsTableau, HasFittingEntries, HasPrimitiveRows, built, built_row, built_objective, column_count}
 
 pub length-range : (a n : ℕ) → length (range_with_len a n) ≡ n
 length-range a zero = refl
@@ -86,14 +86,3 @@ built-HasPrimitiveRows program is = All-append (λ row. primitive_row row ≡ ro
     (All-map (λ row. primitive_row row ≡ row) (built_row program) (range_with_len 0 program.rows) (All-range (λ k. primitive_row (built_row program k) ≡ built_row program k) 0 program.rows
     (λ k low high. primitive_row-unit (built_row program k) (program.columns + k) (ap unsigned_abs (built_slack program is k k (omega arith) (omega arith) ∙ unit_here program.rows k)))))
     (All-cons (λ row. primitive_row row ≡ row) (built_objective program) [] (primitive_row-unit (built_objective program) 0 refl) (All-nil _))
-
--- a tableau whose parts are those of the tableau as built
-pub built_facts : (program : LinearProgram) → IsProgram program → FitsEntries program → program.columns ≤ 2048 → program.rows ≤ 2048 → (columns n : ℕ) (rows all : List (List ℤ)) (last : List ℤ) (basis : List ℕ)
-    → columns ≡ program.columns → n ≡ program.rows → all ≡ rows ++ last ∷ [] → rows ≡ map (built_row program) (range_with_len 0 n) → last ≡ built_objective program → basis ≡ range_with_len columns n
-    → IsKeptTableau (record { columns = columns; rows = all; basis = basis })
-built_facts program is fits few_columns few columns n rows all last basis columns_is n_is all_is rows_is last_is basis_is =
-    let same_rows : all ≡ (built program).rows = all_is ∙ ap₂ (λ xs x. xs ++ x ∷ []) (rows_is ∙ ap (λ k. map (built_row program) (range_with_len 0 k)) n_is) last_is in
-    let same_basis : basis ≡ (built program).basis = basis_is ∙ ap₂ (λ a k. range_with_len a k) columns_is n_is in
-    let whole : built program ≡ record { columns = columns; rows = all; basis = basis } = sym (ap₂ (λ xs bs. record { columns = columns; rows = xs; basis = bs }) same_rows same_basis ∙ ap (λ k. record { columns = k; rows = (built program).rows; basis = (built program).basis }) columns_is) in
-    let facts : IsKeptTableau (built program) = record { some_column = is.some_column; some_row = omega (arith, length-range program.columns program.rows, is.some_row); few_columns = few_columns; shape = built-IsTableau program is; fits = built-HasFittingEntries program is fits; primitive = built-HasPrimitiveRows program is; few_rows = omega (arith, length-range program.columns program.rows) } in
-    subst IsKeptTableau whole facts

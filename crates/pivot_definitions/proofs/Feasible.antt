@@ -3,9 +3,9 @@ use Rattle.std.proofs.Common.{◌≡◌, ℕ, ◌+◌, ◌<◌, ◌⊎◌, inl, 
 use Rattle.std.proofs.lemmas.Int.{by_lt_z}
 use lib.IntN.{ℤ, pos, ◌-ℤ◌, ◌*ℤ◌}
 use lib.Signed.{◌<ℤ◌, ◌≤ℤ◌}
-use Rattle.pivot_definitions.specs.Tableaus.{SimplexTableau, IsTableau, entry_at, basic_column, column_count, right_side}
+use Rattle.pivot_definitions.specs.Tableaus.{SimplexTableau, IsTableau, IsCanonical, entry_at, basic_column, column_count, right_side}
 use Rattle.pivot_definitions.specs.Runs.{Leaves}
-use Rattle.pivot_definitions.specs.Feasible.{IsCanonical, HasNoNegativeRightSide}
+use Rattle.pivot_definitions.specs.Feasible.{HasNoNegativeRightSide}
 use Rattle.pivot_definitions.proofs.Ring.{by_eq, dif_is, difs, dif_same, linear, mul_pos, mul_not_negative, mul_not_positive}
 use borrow.Author.Differences.{same_out}
 use Rattle.pivot_definitions.proofs.Pivots.{PivotFacts}

@@ -6,8 +6,8 @@ use Rattle.std.proofs.lemmas.List.Elements.{All-map, All-weaker}
 use lib.IntN.{ℤ, pos}
 use lib.Signed.{◌<ℤ◌, ◌≤ℤ◌}
 use Rattle.row_definitions.specs.Rows.{primitive_row, row_divisor, divided}
-use Rattle.pivot_definitions.specs.Tableaus.{SimplexTableau, IsTableau, entry_at, basic_column, column_count, right_side, IsValueOf, kept}
-use Rattle.pivot_definitions.specs.Feasible.{IsCanonical, IsFeasible, ReachedIsFeasible, ValuesAreNotNegative}
+use Rattle.pivot_definitions.specs.Tableaus.{SimplexTableau, IsTableau, IsCanonical, entry_at, basic_column, column_count, right_side, IsValueOf, kept}
+use Rattle.pivot_definitions.specs.Feasible.{IsFeasible, ReachedIsFeasible, ValuesAreNotNegative}
 use Rattle.pivot_definitions.proofs.Ring.{linear}
 use Rattle.pivot_definitions.proofs.Reached.{reached}
 use Rattle.pivot_definitions.proofs.Signs.{positive_kept, zero_kept, right_sides_kept}
@@ -22,7 +22,7 @@ kept_shape t is =
       basic_columns = is.basic_columns;
     }
 
-kept_canonical : (t : SimplexTableau) → IsCanonical t → IsCanonical (kept t)
+pub kept_canonical : (t : SimplexTableau) → IsCanonical t → IsCanonical (kept t)
 kept_canonical t is = record {
   positive = λ row h. positive_kept t row (basic_column t row) (is.positive row h);
   zero_elsewhere = λ row other h k differ. zero_kept t other (basic_column t row) (is.zero_elsewhere row other h (omega (arith, length-map t.rows primitive_row, k)) differ);

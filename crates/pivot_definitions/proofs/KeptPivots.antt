@@ -1,19 +1,21 @@
 -- The pivot of a kept form is in kept form, and is the kept form of the plain pivot.
-use Rattle.std.proofs.Common.{◌≡◌, ◌≢◌, ℕ, ◌+◌, ◌<◌, List, [], length, get_or, sym, ap, ◌∙◌, subst, arith}
+use Rattle.std.proofs.Common.{◌≡◌, ◌≢◌, ℕ, ◌+◌, ◌<◌, List, [], ◌∷◌, map, length, get_or, refl, sym, ap, ap₂, ◌∙◌, subst, arith}
 use Rattle.std.specs.List.{All}
 use Rattle.std.proofs.lemmas.List.{length-map, length-set}
-use Rattle.std.proofs.lemmas.List.Elements.{All-from_get_or, All-set, All-weaker}
+use Rattle.std.proofs.lemmas.List.Elements.{All-from_get_or, All-head, All-tail, All-set, All-weaker}
 use lib.IntN.{ℤ, pos}
 use lib.Signed.{◌<ℤ◌}
 use Rattle.row_definitions.specs.Rows.{primitive_row, row_divisor, divided}
 use Rattle.row_definitions.specs.Combination.{FitsEntry, combined, reduced_combination, target_factor, pivot_factor, PassesNowhere}
 use Rattle.row_definitions.proofs.Primitives.{primitive_row-primitive_row, FitsEntry-primitive_row}
 use Rattle.row_definitions.proofs.Combinations.{length-combination, entry-combination, combined_of_kept_forms}
-use Rattle.pivot_definitions.specs.Tableaus.{SimplexTableau, IsKeptTableau, row_at, entry_at, column_count, others_combined, IsKeptPivot, PivotFits}
+use Rattle.pivot_definitions.specs.Tableaus.{SimplexTableau, HasPrimitiveRows, IsCanonical, IsKeptTableau, row_at, entry_at, column_count, others_combined, plain_pivot, kept, IsKeptPivot, PivotFits}
 use Rattle.pivot_definitions.specs.Laws.{kept_pivot}
 use Rattle.pivot_definitions.proofs.Ring.{by_eq}
-use Rattle.pivot_definitions.proofs.Pivots.{length-others, same_row, other_row, width}
+use Rattle.pivot_definitions.proofs.Pivots.{length-others, same_row, other_row, width, pivot_facts}
+use Rattle.pivot_definitions.proofs.Feasible.{canonical_step}
 use Rattle.pivot_definitions.proofs.KeptForms.{kept_pivot_lem}
+use Rattle.pivot_definitions.proofs.KeptFeasible.{kept_canonical}
 use Rattle.pivot_definitions.proofs.Signs.{positive_plain}
 
 pub All-others : (P : List ℤ → Type 0) (f : List ℤ → List ℤ) (rows : List (List ℤ)) (p : ℕ) → p < length rows → P (get_or rows p []) → ((i : ℕ) → i < length rows → i ≢ p → P (f (get_or rows i []))) → All P (others_combined f rows p)
@@ -28,8 +30,21 @@ pub fits_combined : (target pivot : List ℤ) (at : ℕ) → length target ≡ l
 fits_combined target pivot at e fits = FitsEntry-primitive_row (reduced_combination target pivot at) (All-from_get_or FitsEntry (reduced_combination target pivot at) (pos 0)
     (λ k h. subst FitsEntry (sym (entry-combination (target_factor target pivot at) (pivot_factor target pivot at) target pivot k e)) ((fits k (omega (arith, length-combination (target_factor target pivot at) (pivot_factor target pivot at) target pivot e))).difference)))
 
-pub kept_pivot_kept : (t : SimplexTableau) (p q : ℕ) → IsKeptTableau t → p < length t.basis → q < column_count t → PivotFits t p q → IsKeptTableau (kept_pivot t p q)
-kept_pivot_kept t p q is row column fits =
+pub is_kept_pivot : (t : SimplexTableau) (p q : ℕ) → p < length t.rows → pos 0 <ℤ entry_at t p q → IsKeptPivot t p q (kept_pivot t p q)
+is_kept_pivot t p q within positive plain is =
+    let moved = subst (λ s. (p < length s.rows) × (pos 0 <ℤ entry_at s p q)) (sym is) (within, positive) in
+    ap (λ s. kept_pivot s p q) (sym is) ∙ sym (kept_pivot_lem combined_of_kept_forms plain p q (omega (arith, length-map plain.rows primitive_row, moved.0)) (positive_plain plain p q moved.1))
+
+map_same : (rows : List (List ℤ)) → All (λ row. primitive_row row ≡ row) rows → map primitive_row rows ≡ rows
+map_same [] all = refl
+map_same (row ∷ rows) all = ap₂ (λ x xs. x ∷ xs) (All-head (λ r. primitive_row r ≡ r) row rows all) (map_same rows (All-tail (λ r. primitive_row r ≡ r) row rows all))
+
+-- a tableau of primitive rows is its own kept form
+kept_same : (t : SimplexTableau) → HasPrimitiveRows t → kept t ≡ t
+kept_same t primitive = ap (λ rows. record { columns = t.columns; rows = rows; basis = t.basis }) (map_same t.rows primitive)
+
+pub kept_pivot_kept : (t : SimplexTableau) (p q : ℕ) → IsKeptTableau t → p < length t.basis → q < column_count t → pos 0 <ℤ entry_at t p q → PivotFits t p q → IsKeptTableau (kept_pivot t p q)
+kept_pivot_kept t p q is row column positive fits =
     let count : length t.rows ≡ length t.basis + 1 = is.shape.row_count in
     let within : p < length t.rows = omega (arith, count) in
     let f : List ℤ → List ℤ = λ target. combined target (row_at t p) q in
@@ -48,9 +63,6 @@ kept_pivot_kept t p q is row column fits =
       };
       fits = All-others (All FitsEntry) f t.rows p within (is.fits p [] within) (λ i h ne. fits_combined (row_at t i) (row_at t p) q (even i h) (fits i h ne));
       primitive = All-others (λ r. primitive_row r ≡ r) f t.rows p within (is.primitive p [] within) (λ i h ne. primitive_row-primitive_row (reduced_combination (row_at t i) (row_at t p) q));
+      canonical = subst IsCanonical (sym (is_kept_pivot t p q within positive t (kept_same t is.primitive)))
+          (kept_canonical (plain_pivot t p q) (canonical_step t (plain_pivot t p q) p q is.shape (pivot_facts t is.shape p q row column) row positive is.canonical));
     }
-
-pub is_kept_pivot : (t : SimplexTableau) (p q : ℕ) → p < length t.rows → pos 0 <ℤ entry_at t p q → IsKeptPivot t p q (kept_pivot t p q)
-is_kept_pivot t p q within positive plain is =
-    let moved = subst (λ s. (p < length s.rows) × (pos 0 <ℤ entry_at s p q)) (sym is) (within, positive) in
-    ap (λ s. kept_pivot s p q) (sym is) ∙ sym (kept_pivot_lem combined_of_kept_forms plain p q (omega (arith, length-map plain.rows primitive_row, moved.0)) (positive_plain plain p q moved.1))

@@ -6,9 +6,8 @@ use Rattle.std.proofs.lemmas.Int.{by_lt_z}
 use lib.IntN.{ℤ, pos, ◌+ℤ◌, ◌-ℤ◌, ◌*ℤ◌}
 use lib.Signed.{◌<ℤ◌, ◌≤ℤ◌}
 use borrow.Author.Differences.{same_out}
-use Rattle.pivot_definitions.specs.Tableaus.{SimplexTableau, IsTableau, entry_at, basic_column, column_count, objective}
+use Rattle.pivot_definitions.specs.Tableaus.{SimplexTableau, IsTableau, IsCanonical, entry_at, basic_column, column_count, objective}
 use Rattle.pivot_definitions.specs.Runs.{CanLeave}
-use Rattle.pivot_definitions.specs.Feasible.{IsCanonical}
 use Rattle.pivot_definitions.proofs.Ring.{by_eq, dif_is, difs, dif_same, linear, mul_pos, mul_negative, mul_not_negative, mul_not_positive}
 use Rattle.pivot_definitions.proofs.Pivots.{PivotFacts}
 
@@ -47,8 +46,9 @@ pub record Level (t : SimplexTableau) (cap unit : ℕ → ℤ) (slack : ℕ) : T
 pub objective_of_basic : (t : SimplexTableau) → IsTableau t → IsCanonical t → (i : ℕ) → i < length t.basis → objective t (basic_column t i) ≡ pos 0
 objective_of_basic t is canonical i h = canonical.zero_elsewhere i (length t.basis) h (omega (arith, is.row_count)) (omega arith)
 
-enters_not_level : (t : SimplexTableau) (q i : ℕ) → IsTableau t → IsCanonical t → i < length t.basis → pos 0 <ℤ objective t q → q ≢ basic_column t i
-enters_not_level t q i is canonical h positive e =
+-- so a column that can enter is not basic
+pub enters_not_basic : (t : SimplexTableau) (q i : ℕ) → IsTableau t → IsCanonical t → i < length t.basis → pos 0 <ℤ objective t q → q ≢ basic_column t i
+enters_not_basic t q i is canonical h positive e =
     let z : objective t q ≡ pos 0 = subst (λ k. objective t k ≡ pos 0) (sym e) (objective_of_basic t is canonical i h) in
     omega (arith, linear, same_out _ _ z)
 
@@ -117,7 +117,7 @@ record EnteringFacts (t : SimplexTableau) (cap unit : ℕ → ℤ) (slack q i0 :
 
 entering_facts : (t : SimplexTableau) (cap unit : ℕ → ℤ) (slack q : ℕ) → IsTableau t → IsCanonical t → CapFacts cap slack (column_count t) → UnitFacts unit → (level : Level t cap unit slack) → q < column_count t → pos 0 <ℤ objective t q → EnteringFacts t cap unit slack q level.level_row
 entering_facts t cap unit slack q is canonical capped unit_facts level within positive =
-    let not_level : q ≢ 0 = λ e. enters_not_level t q level.level_row is canonical level.within positive (e ∙ sym level.basic) in
+    let not_level : q ≢ 0 = λ e. enters_not_basic t q level.level_row is canonical level.within positive (e ∙ sym level.basic) in
     let unit_zero = unit_facts.elsewhere q not_level in
     let negative = level_negative level.c level.e level.f (objective t q) (unit q) (entry_at t level.level_row q) level.positive_c level.positive_e (level.objective_is q) unit_zero positive in
     let not_slack : q ≢ slack = λ e. elim level.other [
@@ -126,7 +126,7 @@ entering_facts t cap unit slack q is canonical capped unit_facts level within po
           let below = mul_negative level.a (entry_at t level.level_row q) level.positive_a negative in
           let above = mul_pos level.d (pos 1) level.positive_d (omega (arith, linear)) in
           omega (arith, linear, same_out _ _ d_is, below, above))
-      | inr there ↦ enters_not_level t q level.other_row is canonical there.0 positive (e ∙ sym there.1)
+      | inr there ↦ enters_not_basic t q level.other_row is canonical there.0 positive (e ∙ sym there.1)
     ] in
     record { not_level = not_level; not_slack = not_slack; cap_zero = capped.elsewhere q within not_level not_slack; unit_zero = unit_zero; negative = negative }
 

@@ -1,18 +1,18 @@
 -- The tableau of a program as built: its entries, its basic columns, its right sides and its cap.
-use Rattle.std.proofs.Common.{◌≡◌, ◌≢◌, ℕ, zero, suc, ◌+◌, ◌-◌, ◌<◌, inl, inr, [], ◌∷◌, ◌++◌, map, length, replicate, refl, sym, ap, ap₂, ◌∙◌, subst, arith}
+use Rattle.std.proofs.Common.{◌≡◌, ◌≢◌, ℕ, zero, suc, ◌+◌, ◌-◌, ◌<◌, ◌≤◌, inl, inr, List, [], ◌∷◌, ◌++◌, map, length, replicate, refl, sym, ap, ap₂, ◌∙◌, subst, arith}
 use Rattle.std.specs.List.{range_with_len}
 use Rattle.std.proofs.lemmas.List.{length-append, length-replicate, get_or_append_left, get_or-append_right, get_or_at}
 use Rattle.std.proofs.lemmas.List.FromFn.{length-map-range_with_len, get_or-map-range_with_len, get_or-range_with_len}
 use Rattle.std.proofs.lemmas.Bool.{cases_lt}
-use lib.IntN.{pos}
+use lib.IntN.{ℤ, pos}
 use lib.Signed.{◌≤ℤ◌}
 use Rattle.row_definitions.specs.Rows.{entry}
-use Rattle.pivot_definitions.specs.Programs.{LinearProgram, IsProgram, IsCapped, coefficient_row, unit_row}
-use Rattle.pivot_definitions.specs.Tableaus.{row_at, entry_at, basic_column, right_side, built, built_row, built_objective}
+use Rattle.pivot_definitions.specs.Programs.{LinearProgram, IsProgram, FitsEntries, IsCapped, coefficient_row, unit_row}
+use Rattle.pivot_definitions.specs.Tableaus.{IsKeptTableau, row_at, entry_at, basic_column, right_side, built, built_row, built_objective}
 use Rattle.pivot_definitions.specs.Feasible.{IsFeasible}
 use borrow.Author.Differences.{same_out}
 use Rattle.pivot_definitions.proofs.Ring.{by_eq, linear}
-use Rattle.pivot_definitions.proofs.Built.{length-range, length-unit, length-coefficients, built-IsTableau, unit_here, built_slack}
+use Rattle.pivot_definitions.proofs.Built.{length-range, length-unit, length-coefficients, built-IsTableau, built-HasFittingEntries, built-HasPrimitiveRows, unit_here, built_slack}
 use Rattle.pivot_definitions.proofs.Level.{CapFacts, UnitFacts}
 
 zeros : (n k : ℕ) → entry (replicate n (pos 0)) k ≡ pos 0
@@ -95,3 +95,14 @@ cap_facts program is capped =
             ap (entry (built_row program (program.rows - 1))) (sym e) ∙ built_slack program is (program.rows - 1) (k - program.columns) last (omega arith) ∙ unit_elsewhere program.rows (program.rows - 1) (k - program.columns) (omega arith))
       ];
     }
+
+-- a tableau whose parts are those of the tableau as built
+pub built_facts : (program : LinearProgram) → IsProgram program → FitsEntries program → program.columns ≤ 2048 → program.rows ≤ 2048 → (columns n : ℕ) (rows all : List (List ℤ)) (last : List ℤ) (basis : List ℕ)
+    → columns ≡ program.columns → n ≡ program.rows → all ≡ rows ++ last ∷ [] → rows ≡ map (built_row program) (range_with_len 0 n) → last ≡ built_objective program → basis ≡ range_with_len columns n
+    → IsKeptTableau (record { columns = columns; rows = all; basis = basis })
+built_facts program is fits few_columns few columns n rows all last basis columns_is n_is all_is rows_is last_is basis_is =
+    let same_rows : all ≡ (built program).rows = all_is ∙ ap₂ (λ xs x. xs ++ x ∷ []) (rows_is ∙ ap (λ k. map (built_row program) (range_with_len 0 k)) n_is) last_is in
+    let same_basis : basis ≡ (built program).basis = basis_is ∙ ap₂ (λ a k. range_with_len a k) columns_is n_is in
+    let whole : built program ≡ record { columns = columns; rows = all; basis = basis } = sym (ap₂ (λ xs bs. record { columns = columns; rows = xs; basis = bs }) same_rows same_basis ∙ ap (λ k. record { columns = k; rows = (built program).rows; basis = (built program).basis }) columns_is) in
+    let facts : IsKeptTableau (built program) = record { some_column = is.some_column; some_row = omega (arith, length-range program.columns program.rows, is.some_row); few_columns = few_columns; shape = built-IsTableau program is; fits = built-HasFittingEntries program is fits; primitive = built-HasPrimitiveRows program is; canonical = (built_feasible program is).canonical; few_rows = omega (arith, length-range program.columns program.rows) } in
+    subst IsKeptTableau whole facts

@@ -1,13 +1,8 @@
 -- What holds of every tableau that a run reaches.
-use Rattle.std.specs.Prelude.{◌≡◌, ◌≢◌, ℕ, ◌<◌, length, ℤ, pos, ◌<ℤ◌, ◌≤ℤ◌}
+use Rattle.std.specs.Prelude.{ℕ, ◌<◌, length, ℤ, pos, ◌<ℤ◌, ◌≤ℤ◌}
 use Rattle.pivot_definitions.specs.Programs.{LinearProgram}
-use Rattle.pivot_definitions.specs.Tableaus.{SimplexTableau, IsTableau, entry_at, basic_column, right_side, IsValueOf}
+use Rattle.pivot_definitions.specs.Tableaus.{SimplexTableau, IsTableau, IsCanonical, right_side, IsValueOf}
 use Rattle.pivot_definitions.specs.Duality.{IsReached}
-
--- each basic column is positive in its row, and 0 in every other
-pub record IsCanonical (tableau : SimplexTableau) : Type 0 where
-  pub positive : (row : ℕ) → row < length tableau.basis → pos 0 <ℤ entry_at tableau row (basic_column tableau row)
-  pub zero_elsewhere : (row other : ℕ) → row < length tableau.basis → other < length tableau.rows → other ≢ row → entry_at tableau other (basic_column tableau row) ≡ pos 0
 
 -- no right side of a constraint row is below 0, so no column of the basic solution is
 abbrev pub HasNoNegativeRightSide : SimplexTableau → Type 0

@@ -1,5 +1,5 @@
 -- The simplex tableau of a program, over whole numbers without bound, and its pivots, in which nothing is divided.
-use Rattle.std.specs.Prelude.{◌≡◌, ◌≢◌, ℕ, suc, ◌+◌, ◌<◌, ◌≤◌, ◌==◌, List, [], ◌∷◌, ◌++◌, length, map, take, drop, replicate, slice_index, slice_index_or, slice_set, position, MatchOption, ℤ, pos, neg_ℤ}
+use Rattle.std.specs.Prelude.{◌≡◌, ◌≢◌, ℕ, suc, ◌+◌, ◌<◌, ◌≤◌, ◌==◌, List, [], ◌∷◌, ◌++◌, length, map, take, drop, replicate, slice_index, slice_index_or, slice_set, position, MatchOption, ℤ, pos, neg_ℤ, ◌<ℤ◌}
 use Rattle.std.specs.List.{All, range_with_len}
 use Rattle.row_definitions.specs.Rows.{entry, primitive_row}
 use Rattle.row_definitions.specs.Combination.{FitsEntry, plain_combination, PassesNowhere, PassesFirst}
@@ -57,7 +57,12 @@ HasFittingEntries tableau = All (λ row. All FitsEntry row) tableau.rows
 abbrev pub HasPrimitiveRows : SimplexTableau → Type 0
 HasPrimitiveRows tableau = All (λ row. primitive_row row ≡ row) tableau.rows
 
--- a tableau of 1 to 2,048 columns and 1 to 2,048 rows, in kept form and with entries that fit
+-- each basic column is positive in its row, and 0 in every other
+pub record IsCanonical (tableau : SimplexTableau) : Type 0 where
+  pub positive : (row : ℕ) → row < length tableau.basis → pos 0 <ℤ entry_at tableau row (basic_column tableau row)
+  pub zero_elsewhere : (row other : ℕ) → row < length tableau.basis → other < length tableau.rows → other ≢ row → entry_at tableau other (basic_column tableau row) ≡ pos 0
+
+-- a tableau of 1 to 2,048 columns and 1 to 2,048 rows, in kept and canonical form and with entries that fit
 pub record IsKeptTableau (tableau : SimplexTableau) : Type 0 where
   pub some_column : 0 < tableau.columns
   pub some_row : 0 < length tableau.basis
@@ -66,6 +71,16 @@ pub record IsKeptTableau (tableau : SimplexTableau) : Type 0 where
   pub shape : IsTableau tableau
   pub fits : HasFittingEntries tableau
   pub primitive : HasPrimitiveRows tableau
+  pub canonical : IsCanonical tableau
+
+-- a tableau of no columns and no rows, which stands for no program
+abbrev pub empty_tableau : SimplexTableau
+empty_tableau = record { columns = 0; rows = []; basis = [] }
+
+-- a tableau in kept and canonical form, or an empty one
+pub record IsKeptOrEmpty (tableau : SimplexTableau) : Type 0 where
+  pub kept : 0 < column_count tableau → IsKeptTableau tableau
+  pub empty : column_count tableau ≡ 0 → length tableau.rows ≡ 0
 
 -- one tableau has as many columns and rows as the other
 abbrev pub HasSameShape : SimplexTableau → SimplexTableau → Type 0

@@ -11,8 +11,7 @@ use Rattle.row_definitions.specs.Combination.{FitsEntry, combined}
 use Rattle.row_definitions.proofs.Primitives.{FitsEntry-primitive_row}
 use Rattle.row_definitions.proofs.Combinations.{combined_of_kept_forms}
 use Rattle.pivot_definitions.specs.Programs.{LinearProgram, IsProgram, FitsEntries}
-use Rattle.pivot_definitions.specs.Tableaus.{SimplexTableau, IsTableau, HasFittingEntries, row_at, entry_at, objective, basic_column, plain_pivot, built, built_objective, kept, PivotFits}
-use Rattle.pivot_definitions.specs.Feasible.{IsCanonical}
+use Rattle.pivot_definitions.specs.Tableaus.{SimplexTableau, IsTableau, IsCanonical, HasFittingEntries, row_at, entry_at, objective, basic_column, plain_pivot, built, built_objective, kept, PivotFits}
 use Rattle.pivot_definitions.proofs.Ring.{by_eq, dif_is, difs, dif_same, linear, mul_pos}
 use Rattle.pivot_definitions.proofs.Built.{length-range, built-HasFittingEntries}
 use Rattle.pivot_definitions.proofs.Pivots.{PivotFacts, pivot_facts, width}

@@ -1,17 +1,19 @@
 -- The steps and the ends of a run.
 use Rattle.std.proofs.Common.{◌≡◌, ℕ, ◌+◌, ◌<◌, ◌≤◌, List, [], ◌∷◌, map, refl, sym, ap, ap₂, ◌∙◌, subst, arith, add-one}
-use Rattle.std.specs.List.{All}
+use Rattle.std.specs.List.{All, Contains}
+use Rattle.std.proofs.lemmas.List.{get_or_default}
 use Rattle.std.proofs.lemmas.List.Elements.{All-head, All-tail}
 use lib.IntN.{ℤ, pos}
 use lib.Signed.{◌<ℤ◌}
 use borrow.Author.Differences.{same_out}
 use Rattle.row_definitions.specs.Rows.{primitive_row}
 use Rattle.pivot_definitions.specs.Programs.{LinearProgram, IsProgram, IsCapped}
-use Rattle.pivot_definitions.specs.Tableaus.{SimplexTableau, IsTableau, entry_at, basic_column, built, kept, plain_pivot, IsKeptPivot, PivotFits, PivotPassesFirst}
+use Rattle.pivot_definitions.specs.Tableaus.{SimplexTableau, IsTableau, IsCanonical, entry_at, basic_column, built, kept, plain_pivot, IsKeptPivot, PivotFits, PivotPassesFirst}
 use Rattle.pivot_definitions.specs.Runs.{IsChoice, IsBest, RunsTo, EndsBest, EndsWide, EndsOutOfPivots}
-use Rattle.pivot_definitions.specs.Feasible.{IsCanonical}
 use Rattle.pivot_definitions.proofs.Ring.{linear}
 use Rattle.pivot_definitions.proofs.Built.{built-HasPrimitiveRows}
+use Rattle.pivot_definitions.proofs.KeptFeasible.{reached_is_feasible}
+use Rattle.pivot_definitions.proofs.Level.{enters_not_basic}
 use Rattle.pivot_definitions.proofs.Reached.{Reached, reached, bounded}
 use Rattle.pivot_definitions.proofs.Signs.{right_sides_kept, enters_plain, positive_kept, choice_plain, best_plain}
 use Rattle.pivot_rule.specs.Choosable.{HasDistinctBasis, IsChoosable}
@@ -49,6 +51,12 @@ run_none start (program, is, capped, start_is) =
 pub run_choosable : (start tableau : SimplexTableau) (n : ℕ) → IsCappedStart start → RunSoFar start n tableau → IsChoosable tableau
 run_choosable start tableau n (program, is, capped, start_is) (plain, kept_is, run) =
     subst IsChoosable (sym kept_is) (choosable program is capped plain (reached program is capped n plain (subst (λ s. RunsTo s n plain) start_is run)))
+
+-- the column that enters is not basic
+pub run_not_basic : (start tableau : SimplexTableau) (n row column : ℕ) → IsCappedStart start → RunSoFar start n tableau → IsChoice tableau row column → ¬ Contains tableau.basis column
+run_not_basic start tableau n row column (program, is, capped, start_is) (plain, kept_is, run) choice (k, within, basic) =
+    let feasible = reached_is_feasible program tableau (is, capped, n, plain, subst (λ s. RunsTo s n plain) start_is run, kept_is) in
+    enters_not_basic tableau column k feasible.shape feasible.canonical within choice.enters.positive (sym (get_or_default tableau.basis k 0 column within ∙ basic))
 
 pub run_more : (start tableau after : SimplexTableau) (n row column : ℕ) → RunSoFar start n tableau → IsChoice tableau row column → PivotFits tableau row column → IsKeptPivot tableau row column after → RunSoFar start (n + 1) after
 run_more start tableau after n row column (plain, kept_is, run) choice fits pivot = (

@@ -1,4 +1,4 @@
-ghost use Rattle.std.specs.Prelude.{◌≡◌, ◌*◌, ◌<◌};
+ghost use Rattle.std.specs.Prelude.{◌≡◌, ◌*◌, ◌<◌, ◌^◌, IsTrue};
 ghost use Rattle.std.specs.Ordering.{MatchOrdering};
 
 use std::cmp::Ordering;
@@ -13,13 +13,19 @@ pub(crate) struct Ratio {
 }
 
 impl Ratio {
-    // Which of two fractions is the larger. Their whole parts are compared, and where those are equal the rests by their
-    // reciprocals, as in continued fractions: a product of two entries could pass 128 bits.
+    // Which of two fractions is the larger. Where all four numbers fit 64 bits, their products are compared. Else a product
+    // could pass 128 bits, and their whole parts are compared, and where those are equal the rests by their reciprocals, as in
+    // continued fractions.
     pub(crate) fn compare(self, other: Ratio) -> Ordering
         requires denominator { 0 < self.denominator }
         requires other_denominator { 0 < other.denominator }
         ensures { MatchOrdering result (self.numerator * other.denominator < other.numerator * self.denominator) (self.numerator * other.denominator ≡ other.numerator * self.denominator) (other.numerator * self.denominator < self.numerator * other.denominator) }
     {
+        if self.is_narrow() && other.is_narrow() {
+            let product = self.numerator * other.denominator;
+            let other_product = other.numerator * self.denominator;
+            return product.cmp(&other_product);
+        }
         let whole = self.numerator / self.denominator;
         let other_whole = other.numerator / other.denominator;
         if whole != other_whole {
@@ -39,5 +45,11 @@ impl Ratio {
             denominator: other_rest,
         };
         other_reciprocal.compare(reciprocal)
+    }
+
+    fn is_narrow(self) -> bool
+        ensures { IsTrue result → (self.numerator < 2 ^ 64) × (self.denominator < 2 ^ 64) }
+    {
+        self.numerator <= u64::MAX as u128 && self.denominator <= u64::MAX as u128
     }
 }

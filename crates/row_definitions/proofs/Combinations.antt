@@ -46,11 +46,11 @@ size-pos (negsuc n) h = omega arith
 pub column_divisor-pos : (target pivot : List ℤ) (at : ℕ) → pos 0 <ℤ entry pivot at → 0 < column_divisor target pivot at
 column_divisor-pos target pivot at h = row_divisor-pos (entry pivot at ∷ entry target at ∷ []) (0, size-pos (entry pivot at) h)
 
-target_factor-exact : (target pivot : List ℤ) (at : ℕ) → pos (column_divisor target pivot at) *ℤ target_factor target pivot at ≡ entry pivot at
+pub target_factor-exact : (target pivot : List ℤ) (at : ℕ) → pos (column_divisor target pivot at) *ℤ target_factor target pivot at ≡ entry pivot at
 target_factor-exact target pivot at =
     divided-exact (column_divisor target pivot at) (entry pivot at) (row_divisor_is (entry pivot at ∷ entry target at ∷ [])).0.0
 
-pivot_factor-exact : (target pivot : List ℤ) (at : ℕ) → pos (column_divisor target pivot at) *ℤ pivot_factor target pivot at ≡ entry target at
+pub pivot_factor-exact : (target pivot : List ℤ) (at : ℕ) → pos (column_divisor target pivot at) *ℤ pivot_factor target pivot at ≡ entry target at
 pivot_factor-exact target pivot at =
     divided-exact (column_divisor target pivot at) (entry target at) (row_divisor_is (entry pivot at ∷ entry target at ∷ [])).0.1.0
 

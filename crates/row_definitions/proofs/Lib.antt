@@ -2,3 +2,4 @@ pub mod Numbers
 pub mod Divisors
 pub mod Primitives
 pub mod Combinations
+pub mod Contents

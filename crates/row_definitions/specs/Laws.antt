@@ -3,7 +3,7 @@ use Rattle.std.specs.Prelude.{◌≡◌, ◌↔◌, ℕ, ◌<◌, List, length, 
 use Rattle.std.specs.Int.{◌∣◌}
 use Rattle.std.specs.List.{All}
 use Rattle.row_definitions.specs.Rows.{entry, row_divisor, primitive_row, scaled, IsPositiveMultiple, IsProportional}
-use Rattle.row_definitions.specs.Combination.{plain_combination, combined, FitsEntry, PassesNowhere, PassesFirst}
+use Rattle.row_definitions.specs.Combination.{plain_combination, reduced_combination, combined, FitsEntry, PassesNowhere, PassesFirst}
 
 -- a number divides each entry of a row
 abbrev pub IsCommonDivisor : ℕ → List ℤ → Type 0
@@ -72,6 +72,14 @@ CombinedFits = (target pivot : List ℤ) (at : ℕ) → length target ≡ length
 -- to combine kept forms gives the kept form of the plain rows' plain combination
 abbrev pub CombinedOfKeptForms : Type 0
 CombinedOfKeptForms = (target pivot : List ℤ) (at : ℕ) → pos 0 <ℤ entry pivot at → combined (primitive_row target) (primitive_row pivot) at ≡ primitive_row (plain_combination target pivot at)
+
+-- where the pivot is primitive and 0 in a column, what divides each entry of the combination divides the target's entry there
+abbrev pub ContentDividesTarget : Type 0
+ContentDividesTarget = (target pivot : List ℤ) (at column : ℕ) → length target ≡ length pivot → pos 0 <ℤ entry pivot at → primitive_row pivot ≡ pivot → entry pivot column ≡ pos 0 → row_divisor (reduced_combination target pivot at) ∣ unsigned_abs (entry target column)
+
+-- where the target is primitive, not all zeros, and 0 in a column, it divides the pivot's entry there
+abbrev pub ContentDividesPivot : Type 0
+ContentDividesPivot = (target pivot : List ℤ) (at column : ℕ) → length target ≡ length pivot → pos 0 <ℤ entry pivot at → primitive_row target ≡ target → IsNonZeroRow target → entry target column ≡ pos 0 → row_divisor (reduced_combination target pivot at) ∣ unsigned_abs (entry pivot column)
 
 -- the combination is 0 in the column that it is made for
 abbrev pub CombinedIsZeroThere : Type 0

@@ -5,10 +5,11 @@
 //! - `divisor_law`: the divisor of a row is the greatest common divisor of its entries.
 //! - `primitive_law`: a row is a positive multiple of its primitive, and rows of one direction have one primitive.
 //! - `combination_law`: to combine primitives gives the primitive of the plain combination.
+//! - `content_law`: two entries that the greatest common divisor of a combination divides.
 //! - `passing_law`: a combination passes 128 bits nowhere, or first in one column.
 #![tactic(auto)]
 
-ghost use Rattle.row_definitions.specs.Laws.{DivisorDivides, DivisorIsGreatest, RowIsMultipleOfPrimitive, ZeroRowStays, PrimitiveKeepsDirection, MultipleKeepsSigns, PrimitiveStays, UnitEntryIsPrimitive, PrimitiveFits, PrimitiveOfMultiple, PrimitiveOfProportional, CombinedIsPlain, CombinedOfKeptForms, CombinedKeepsDirection, CombinedFits, CombinedIsZeroThere, ZeroThereStays, ZeroThereFits, PassesFirstOnce, PassesFirstOrNowhere};
+ghost use Rattle.row_definitions.specs.Laws.{DivisorDivides, DivisorIsGreatest, RowIsMultipleOfPrimitive, ZeroRowStays, PrimitiveKeepsDirection, MultipleKeepsSigns, PrimitiveStays, UnitEntryIsPrimitive, PrimitiveFits, PrimitiveOfMultiple, PrimitiveOfProportional, CombinedIsPlain, CombinedOfKeptForms, CombinedKeepsDirection, CombinedFits, CombinedIsZeroThere, ZeroThereStays, ZeroThereFits, ContentDividesTarget, ContentDividesPivot, PassesFirstOnce, PassesFirstOrNowhere};
 
 /// The divisor of a row is the greatest common divisor of its entries.
 pub fn divisor_law()
@@ -40,6 +41,14 @@ pub fn combination_law()
     ensures zero_there { CombinedIsZeroThere }
     ensures zero_there_stays { ZeroThereStays }
     ensures zero_there_fits { ZeroThereFits }
+{}
+
+/// What divides each entry of the combination of primitive rows divides the target's entry in a column where the pivot is 0,
+/// and the pivot's entry in a column where the target is 0. In a tableau in canonical form these are the column that is basic
+/// in the target, and the one that leaves.
+pub fn content_law()
+    ensures target { ContentDividesTarget }
+    ensures pivot { ContentDividesPivot }
 {}
 
 /// A combination passes 128 bits nowhere, or first in one column.

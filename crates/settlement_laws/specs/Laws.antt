@@ -1,12 +1,21 @@
-use Rattle.std.specs.Prelude.{ℕ, pos, negsuc, ◌≡◌, ◌≤◌, ◌*◌, ◌/◌, ◌+ℤ◌, ◌-ℤ◌, ◌*ℤ◌, ◌≤ℤ◌, ◌⊎◌, List, length, All, Contains}
+use Rattle.std.specs.Prelude.{ℕ, pos, negsuc, ◌≡◌, ◌≤◌, ◌*◌, ◌/◌, ◌+ℤ◌, ◌-ℤ◌, ◌*ℤ◌, ◌≤ℤ◌, ◌⊎◌, ◌↔◌, IsTrue, List, length, All, Contains}
 use Rattle.scan_types.specs.declared.offer.Offer.{Offer}
 use Rattle.scan_types.specs.declared.outcome.Outcome.{Outcome}
 use Rattle.scan_types.specs.declared.outcome.Outcome.TheVariants.{Full}
 use Rattle.settlement_definitions.specs.Gain.{gain, net, slack}
 use Rattle.settlement_definitions.specs.StandIns.{is_final, stand_for, stand_ins}
-use Rattle.settlement_definitions.specs.Classes.{SettleAlike, classes_of}
+use Rattle.settlement_definitions.specs.Classes.{SettleAlike, settle_alike, classes_of}
 use Rattle.finding_definitions.specs.Arbitrage.{need, total_net, total_gain}
+use Rattle.finding_definitions.specs.Measure.{IsFinal}
 use Rattle.finding_definitions.specs.Verdicts.{need_with_slack}
+
+-- the test of a final score is true exactly of the final scores
+abbrev pub FinalTestIsExact : Type 0
+FinalTestIsExact = (x : Outcome) → IsTrue (is_final x) ↔ IsFinal x
+
+-- the test of two outcomes is true exactly if they settle the sheet alike
+abbrev pub AlikeTestIsExact : Type 0
+AlikeTestIsExact = (offers : List Offer) (x y : Outcome) → IsTrue (settle_alike offers x y) ↔ SettleAlike offers x y
 
 -- a stand-in is of the kind of each outcome that it stands for, and gives each offer the same gain
 abbrev pub StandInSettlesAlike : Type 0

@@ -1,6 +1,14 @@
+ghost use Rattle.settlement_laws.specs.Laws.{FinalTestIsExact, AlikeTestIsExact};
 ghost use Rattle.settlement_laws.specs.Laws.{StandInSettlesAlike, EachHasStandIn, NetAtEachOutcome, GainAtEachOutcome, EachHasClass};
 ghost use Rattle.settlement_laws.specs.Laws.{NinetyEightStandIns, FiveGains, EachBetCanLose, SlackCoversRounding};
 ghost use Rattle.settlement_laws.specs.Laws.{EqualNeeds, EqualNets, EqualGains, EqualSlacks, NetFromClasses, GainFromClasses, SlackFromClasses};
+
+/// The test `is_final` is true exactly of the final scores. The test `settle_alike` is true exactly if
+/// two outcomes settle the sheet alike.
+pub fn tests_are_exact()
+    ensures of_a_final_score { FinalTestIsExact }
+    ensures of_alike_outcomes { AlikeTestIsExact }
+{}
 
 /// A stand-in is of the kind of each outcome that it stands for, and gives each offer the same gain.
 /// Outcomes range over all whole scores.

@@ -12,10 +12,10 @@ use std::snapshot::Snapshot;
 use std::sync::Wait;
 use want_of_memory::WantOfMemory;
 
-/// How many passes a lock can have in its life, the root among them.
+/// The most passes that a lock can have in its life, including the root.
 pub const MOST_PASSES: u16 = 256;
 
-/// The lock, with the state in it. Threads share it by reference, each with a pass of its own.
+/// The lock, which holds the state. Threads share it by reference, and each thread has a pass of its own.
 #[derive(Drop)]
 pub struct TurnLock<S: Kept> {
     /// Three words, and one slot for the state.
@@ -29,8 +29,8 @@ impl<S: Kept> TurnLock<S> {
     ghost use Rattle.turn_lock.specs.Passes.{known, fresh, after_split, after_join, fixed_part, IsPassOf};
     ghost use Rattle.turn_lock.specs.Turns.{knows, in_hand, state_of, lock_of, pass_name, IsTurn};
 
-    /// A lock round a state whose list is empty, and its root pass, whose number is 0.
-    /// This call alone takes memory. Where there is none, the state is dropped.
+    /// Returns a lock for a state whose list is empty, and the lock's root pass, whose number is 0.
+    /// Only this call allocates. If no memory is left, it drops the state.
     pub fn new(alloc: Global, state: S) -> Result<(TurnLock<S>, Pass<S>), WantOfMemory>
         requires { S.entries state ≡ [] }
         ensures of { IfOk result (λ r. IsPassOf r.0 r.1) }
@@ -54,7 +54,7 @@ impl<S: Kept> TurnLock<S> {
         }
     }
 
-    /// A pass with the next number, for another thread. It has seen what the root has.
+    /// Returns a pass with the next number, for another thread. The pass has seen what the root has seen.
     /// A lock has at most `MOST_PASSES` passes.
     pub fn split(&self, root: &mut Pass<S>) -> Pass<S>
         requires of { IsPassOf self.now root.old }
@@ -74,8 +74,8 @@ impl<S: Kept> TurnLock<S> {
         }
     }
 
-    /// Takes in a pass that `split` gave. The root keeps its number and its entries,
-    /// and has then seen the longer of the two lists.
+    /// Takes in a pass that `split` returned. The root keeps that pass's number and entries.
+    /// The root has then seen the longer of the lists that the two passes had seen.
     pub fn join(&self, root: &mut Pass<S>, other: Pass<S>)
         requires of { IsPassOf self.now root.old × IsPassOf self.now other }
         requires root { (known root.old).number ≡ 0 }
@@ -93,9 +93,10 @@ impl<S: Kept> TurnLock<S> {
         self.table.shared.load::<Compare>(&mut root.seat, TICKET);
     }
 
-    /// Waits for the turn, and gives the state. The state's list begins with all that the pass had seen,
-    /// and the entries with the pass's number are its own. `leave` ends the turn.
-    /// It may wait for ever: nothing is claimed of how long.
+    /// Waits for the turn, and returns it with the state. `leave` ends the turn.
+    /// The state's list begins with all that the pass had seen. Its entries with the pass's number are
+    /// exactly the pass's own.
+    /// The call may wait for ever: nothing is proved about how long it waits.
     pub fn enter<'a, R: Wait>(&'a self, rt: &R, pass: &'a mut Pass<S>) -> Turn<'a, S>
         requires { IsPassOf self.now pass.old }
         ensures turn { IsTurn result × (lock_of result ≡ self.now) }
@@ -113,8 +114,8 @@ impl<S: Kept> TurnLock<S> {
         }
     }
 
-    /// Takes the state out of the lock, once every pass that was split off was joined.
-    /// The entries of each number are those that the root keeps under it, and there are no others.
+    /// Takes the state out of the lock. Every pass that was split off must have been joined.
+    /// The list's entries with each number are those that the root keeps under it, and there are no others.
     pub fn close(self, root: Pass<S>) -> S
         requires of { IsPassOf self root }
         requires root { (known root).number ≡ 0 }

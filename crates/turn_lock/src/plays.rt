@@ -15,7 +15,7 @@ impl<S: Kept> Play<Option<S>, View<S::Entry, S::Fixed>> for Draw {
     ghost then = { drew };
 }
 
-/// Looks which ticket is served. Where it is the pass's own, the pass has the turn, and the slot is out with it.
+/// Looks at which ticket is served. If it is the pass's own, the pass has the turn and holds the slot.
 pub struct Look;
 
 impl<S: Kept> Play<Option<S>, View<S::Entry, S::Fixed>> for Look {
@@ -24,7 +24,7 @@ impl<S: Kept> Play<Option<S>, View<S::Entry, S::Fixed>> for Look {
     ghost then = { looked S.entries S.fixed S.caller };
 }
 
-/// The entries that one step adds. Each call of `commit` picks them.
+/// The entries that one step adds. Each call of `commit` chooses them.
 pub trait Adds<E> {
     ghost added: { List E };
 }
@@ -64,7 +64,7 @@ impl<E, F> Split<View<E, F>> for Number {
     ghost right = { newcomer };
 }
 
-/// Takes in a pass's number and entries, and what it had seen.
+/// Takes in a pass: its number, its entries and what it had seen.
 pub struct TakeIn;
 
 impl<E, F> Join<View<E, F>> for TakeIn {
@@ -75,7 +75,7 @@ impl<E, F> Join<View<E, F>> for TakeIn {
     ghost spent = { spent };
 }
 
-/// Compares what two passes had seen, and keeps the longer.
+/// Compares the lists that two passes had seen, and keeps the longer one.
 pub struct Compare;
 
 impl<S: Kept> Play<Option<S>, View<S::Entry, S::Fixed>> for Compare {

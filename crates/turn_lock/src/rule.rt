@@ -1,24 +1,24 @@
 //! What is true of the lock at every moment.
-//! Its words are the next ticket, the ticket that is served and the number of entries that were committed.
-//! Its slot has the state, or nothing while the state is in the hand of the pass that has the turn.
+//! Its three words are the next ticket, the ticket that is served, and the number of committed entries.
+//! Its slot holds the state. The slot is empty while the pass that has the turn holds the state.
 use crate::kept::Kept;
 use atomic_table::{Seat, Table, TableRule};
 use std::alloc::Global;
 use std::collections::LinkedList;
 use std::snapshot::Snapshot;
 
-/// The next ticket.
+/// The index of the word for the next ticket.
 pub const TICKET: usize = 0;
-/// The ticket that has the turn, or will have it next.
+/// The index of the word for the ticket that has the turn, or will have it next.
 pub const SERVING: usize = 1;
-/// How many entries were committed.
+/// The index of the word for the number of committed entries.
 pub const HISTORY: usize = 2;
 
-/// Where a pass stands.
+/// The stage that a pass is at.
 pub enum Stage {
-    /// Joined.
+    /// Joined into the root.
     Spent,
-    /// Outside.
+    /// Outside, with no ticket.
     Away,
     /// Waiting with this ticket.
     Waiting(u64),
@@ -26,27 +26,27 @@ pub enum Stage {
     Inside(u64),
 }
 
-/// What a pass knows. No value of it is made.
+/// What a pass knows. It serves proofs alone: no code makes a value of it.
 pub struct View<E, F> {
-    /// Where the pass stands.
+    /// The stage that the pass is at.
     pub stage: Stage,
-    /// The number under which its entries stand.
+    /// The number that its entries have.
     pub number: u64,
-    /// The list as far as it was seen.
+    /// The list as far as the pass has seen it.
     pub seen: LinkedList<E>,
     /// Its own entries.
     pub own: LinkedList<E>,
     /// The fixed part of the state. A joined pass has none.
     pub fixed: Option<F>,
-    /// Of the root: how many numbers were given, its own among them.
+    /// For the root: how many numbers were given, including its own.
     pub given: u64,
-    /// Of the root: the numbers of the passes that were joined, each with its entries.
+    /// For the root: the number of each pass that was joined, with the pass's entries.
     pub joined: LinkedList<(u64, LinkedList<E>)>,
-    /// Of the root: what the pass that was joined last had seen.
+    /// For the root: what the pass joined last had seen, until the two lists are compared.
     pub told: LinkedList<E>,
 }
 
-/// The rule that the table of a lock keeps.
+/// The rule that the table of a lock obeys.
 pub struct Law;
 
 impl<S: Kept> TableRule<Option<S>, View<S::Entry, S::Fixed>, Snapshot<S>> for Law {

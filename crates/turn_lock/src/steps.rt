@@ -70,7 +70,7 @@ impl<S: Kept> TurnLock<S> {
         self.commit::<Brand>(&mut pass.seat, state);
     }
 
-    // The moment at which the entry is added for all.
+    // Adds the entry in one step on the history word. From then on it is added for all callers.
     fn commit<A: Adds<S::Entry>>(&self, seat: &mut LockSeat<S>, state: &S)
         requires same { seat.old.table_id ≡ lock_id self.now }
         requires inside { has_turn seat.old.me.0.stage ≡ 1 }
@@ -79,12 +79,12 @@ impl<S: Kept> TurnLock<S> {
         ensures same { seat.new.table_id ≡ seat.old.table_id }
         ensures added { seat.new.me ≡ (with_entries seat.old.me.0 A.added, seat.old.me.1) }
     {
-        // The list's length is a `u64`, so the word does not wrap.
+        // The list's length fits in a `u64`, so the word does not wrap.
         let _length = state.count();
         self.table.shared.fetch_add::<Commit<A>>(seat, HISTORY, 1);
     }
 
-    // Puts the state home, and passes the turn on.
+    // Puts the state back into the slot, and passes the turn on.
     pub(crate) fn put_home(&self, pass: &mut Pass<S>, state: S)
         requires held { IsHeldBy self.now pass.old }
         requires committed { S.entries state ≡ (known pass.old).seen }

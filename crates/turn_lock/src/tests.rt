@@ -22,7 +22,7 @@ fn a_pass_finds_what_was_committed(rt: HostRuntime) -> Result<(), Fail> {
     Ok(())
 }
 
-// Whether each caller from 1 to `callers` added the numbers from 1 to `each`, in their order.
+// Returns whether each caller from 1 to `callers` added exactly the numbers from 1 to `each`, in order.
 fn has_numbers(alloc: Global, log: &Log, callers: u8, each: u64) -> Result<bool, WantOfMemory> {
     let mut wanted = Vec::new(alloc);
     for number in 1..=each {

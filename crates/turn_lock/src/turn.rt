@@ -6,13 +6,13 @@ use crate::kept::Kept;
 use crate::lock::TurnLock;
 use crate::pass::Pass;
 
-/// The time in which one pass has the state. It is not `Drop`: `leave` ends it.
+/// The time during which one pass has the state. It is not `Drop`: `leave` ends it.
 pub struct Turn<'a, S: Kept> {
     /// The pass whose turn it is.
     pub(crate) pass: &'a mut Pass<S>,
-    /// The lock that the turn is of.
+    /// The lock that this turn belongs to.
     pub(crate) lock: &'a TurnLock<S>,
-    /// The state in hand.
+    /// The state, which the turn holds.
     pub(crate) state: S,
 }
 
@@ -21,7 +21,7 @@ impl<'a, S: Kept> Turn<'a, S> {
     ghost use Rattle.turn_lock.specs.Turns.{knows, in_hand, committed, state_of, lock_of, pass_name, with_state, IsTurn};
     ghost use Rattle.turn_lock.specs.contracts.turn.Turn.{the_row};
 
-    /// The state in hand. What is written through it is seen by others once the turn is left.
+    /// Returns the state that the turn holds. Other callers see what is written through it after `leave`.
     pub fn state(&mut self) -> &mut S
         ensures* writes_back { let turn = the_row (record { mir = named 1; lft = [] }) S.row S.Entry.row S.Fixed.row S.Kept in
             sem 𝓛 (Lends turn S.row self.entry result (with_state self.old)) }
@@ -30,8 +30,8 @@ impl<'a, S: Kept> Turn<'a, S> {
         &mut self.state
     }
 
-    /// Commits the one entry that the state's list has more than was committed. The entry is the pass's own.
-    /// The one step on the history word is the moment at which it is added for all.
+    /// Commits the last entry of the state's list. It must have the pass's number, and all entries before it
+    /// must have been committed. One step on the history word adds it for all callers.
     pub fn commit_one(&mut self)
         requires turn { IsTurn self.old }
         requires one { (e : S.Entry)
@@ -48,8 +48,8 @@ impl<'a, S: Kept> Turn<'a, S> {
         self.lock.add_last(pass, &self.state);
     }
 
-    /// Puts the state home and passes the turn on. The pass has then seen the whole list.
-    /// All that is in the list was committed, and the fixed part is as it was.
+    /// Puts the state back into the lock and passes the turn on. The pass has then seen the whole list.
+    /// Every entry of the list must have been committed, and the fixed part must not have changed.
     pub fn leave(self)
         requires turn { IsTurn self }
         requires committed { in_hand self ≡ committed self }

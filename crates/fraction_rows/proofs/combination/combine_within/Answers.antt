@@ -1,65 +1,29 @@
-use Rattle.std.proofs.Common.{◌≡◌, ◌<◌, length, set, All, SFits, ap, subst, sym, ◌∙◌, to_z, of_z, to_z-of_z, rules, arith}
-use Rattle.std.specs.Int.{w128}
-use Rattle.row_definitions.specs.Rows.{entry, primitive_row, IsPositiveMultiple}
-use Rattle.row_definitions.specs.Combination.{FitsEntry, target_factor, pivot_factor, plain_combination, reduced_combination}
-use Rattle.row_definitions.proofs.Combinations.{length-combination, entry-combination, IsPositiveMultiple-combined, FitsEntry-reduced_combination}
-use Rattle.fraction_rows.proofs.Written.{entry-written, set-written, written-all}
+use Rattle.std.proofs.Common.{◌≡◌, ℕ, ◌<◌, length, List, ℤ, All, ap, ap₂, subst, subst₂, sym, ◌∙◌}
+use Rattle.std.specs.Int.{◌∣◌}
+use Rattle.row_definitions.specs.Rows.{entry, row_divisor, primitive_row, IsPositiveMultiple}
+use Rattle.row_definitions.specs.Combination.{FitsEntry, ProductsFit, combination, plain_combination, reduced_combination}
+use Rattle.row_definitions.proofs.Combinations.{IsPositiveMultiple-combined, FitsEntry-reduced_combination}
 use Rattle.fraction_rows.proofs.combination.combine_within.Goals as goal
 
-pub fitting_entry-requires : goal.fitting_entry-requires
-fitting_entry-requires c =
-    let target = c.args.target.now in
-    let pivot = c.args.pivot.now in
-    let at = c.args.at in
-    let i = c.loop-column.column in
-    let in_pivot : i < length pivot = omega arith in
-    let n = length-combination (target_factor target pivot at) (pivot_factor target pivot at) target pivot c.requires.combinable.lengths in
-    let t : SFits w128 (entry c.loop-column.target i) = search rules in
-    let p : SFits w128 (entry pivot i) = search rules in
-    let read : entry c.loop-column.target i ≡ entry target i = ap (λ row. entry row i) c.loop-column.invariant ∙ entry-written (reduced_combination target pivot at) target i n c.loop-column-test.true in
-    simp (to_z-of_z, c.factors_of-factors.ensures.target, c.factors_of-factors.ensures.pivot) (simp read (c.requires.passes_nowhere i c.loop-column-test.true))
+pub write_combination-bits-requires-clause-fits : goal.write_combination-bits-requires-clause-fits
+write_combination-bits-requires-clause-fits c column within =
+    subst₂ (λ a b. ProductsFit a b (entry c.args.target.now column) (entry c.args.pivot.now column)) (sym c.factors_of-factors.ensures.target) (sym c.factors_of-factors.ensures.pivot) (c.requires.passes_nowhere column within)
 
-pub loop-column-preserved : goal.loop-column-preserved
-loop-column-preserved c =
-    let target = c.args.target.now in
-    let pivot = c.args.pivot.now in
-    let at = c.args.at in
-    let i = c.loop-column.column in
-    let in_pivot : i < length pivot = omega arith in
-    let n = length-combination (target_factor target pivot at) (pivot_factor target pivot at) target pivot c.requires.combinable.lengths in
-    let t : SFits w128 (entry c.loop-column.target i) = search rules in
-    let p : SFits w128 (entry pivot i) = search rules in
-    let read : entry c.loop-column.target i ≡ entry target i = ap (λ row. entry row i) c.loop-column.invariant ∙ entry-written (reduced_combination target pivot at) target i n c.loop-column-test.true in
-    let y : SFits w128 c.fitting_entry.result = search rules in
-    let says = simp read at (simp (to_z-of_z, c.factors_of-factors.ensures.target, c.factors_of-factors.ensures.pivot) at c.fitting_entry.ensures) in
-    let value = to_z-of_z y ∙ says ∙ sym (entry-combination (target_factor target pivot at) (pivot_factor target pivot at) target pivot i c.requires.combinable.lengths) in
-    ap (λ row. set row i (to_z w128 (of_z w128 c.fitting_entry.result))) c.loop-column.invariant
-    ∙ set-written (reduced_combination target pivot at) target i _ n c.loop-column-test.true value
+pub divide_by_content-requires-clause-fits : goal.divide_by_content-requires-clause-fits
+divide_by_content-requires-clause-fits c =
+    let is : c.write_combination-bits.new.target ≡ reduced_combination c.args.target.now c.args.pivot.now c.args.at = c.write_combination-bits.ensures.value ∙ ap₂ (λ a b. combination a b c.args.target.now c.args.pivot.now) c.factors_of-factors.ensures.target c.factors_of-factors.ensures.pivot in
+    subst (All FitsEntry) (sym is) (FitsEntry-reduced_combination c.args.target.now c.args.pivot.now c.args.at c.requires.combinable.lengths c.requires.passes_nowhere)
 
-pub primitive-requires : goal.primitive-requires
-primitive-requires c =
-    let target = c.args.target.now in
-    let pivot = c.args.pivot.now in
-    let at = c.args.at in
-    let n = length-combination (target_factor target pivot at) (pivot_factor target pivot at) target pivot c.requires.combinable.lengths in
-    let whole = c.loop-column.invariant ∙ written-all (reduced_combination target pivot at) target c.loop-column.column n c.loop-column-test.false in
-    subst (All FitsEntry) (sym whole) (FitsEntry-reduced_combination target pivot at c.requires.combinable.lengths c.requires.passes_nowhere)
+pub divide_by_content-requires-clause-bound : goal.divide_by_content-requires-clause-bound
+divide_by_content-requires-clause-bound c =
+    let is : c.write_combination-bits.new.target ≡ reduced_combination c.args.target.now c.args.pivot.now c.args.at = c.write_combination-bits.ensures.value ∙ ap₂ (λ a b. combination a b c.args.target.now c.args.pivot.now) c.factors_of-factors.ensures.target c.factors_of-factors.ensures.pivot in
+    subst (λ row. row_divisor row ∣ c.args.bound) (sym is) c.requires.bound
 
 pub returns-clause-value : goal.returns-clause-value
 returns-clause-value c =
-    let target = c.args.target.now in
-    let pivot = c.args.pivot.now in
-    let at = c.args.at in
-    let n = length-combination (target_factor target pivot at) (pivot_factor target pivot at) target pivot c.requires.combinable.lengths in
-    let whole = c.loop-column.invariant ∙ written-all (reduced_combination target pivot at) target c.loop-column.column n c.loop-column-test.false in
-    c.primitive.ensures.value ∙ ap primitive_row whole
+    c.divide_by_content.ensures.value ∙ ap primitive_row (c.write_combination-bits.ensures.value ∙ ap₂ (λ a b. combination a b c.args.target.now c.args.pivot.now) c.factors_of-factors.ensures.target c.factors_of-factors.ensures.pivot)
 
 pub returns-clause-multiple : goal.returns-clause-multiple
 returns-clause-multiple c =
-    let target = c.args.target.now in
-    let pivot = c.args.pivot.now in
-    let at = c.args.at in
-    let n = length-combination (target_factor target pivot at) (pivot_factor target pivot at) target pivot c.requires.combinable.lengths in
-    let whole = c.loop-column.invariant ∙ written-all (reduced_combination target pivot at) target c.loop-column.column n c.loop-column-test.false in
-    let value = c.primitive.ensures.value ∙ ap primitive_row whole in
-    subst (IsPositiveMultiple (plain_combination target pivot at)) (sym value) (IsPositiveMultiple-combined target pivot at c.requires.combinable.positive)
+    let value = c.divide_by_content.ensures.value ∙ ap primitive_row (c.write_combination-bits.ensures.value ∙ ap₂ (λ a b. combination a b c.args.target.now c.args.pivot.now) c.factors_of-factors.ensures.target c.factors_of-factors.ensures.pivot) in
+    subst (IsPositiveMultiple (plain_combination c.args.target.now c.args.pivot.now c.args.at)) (sym value) (IsPositiveMultiple-combined c.args.target.now c.args.pivot.now c.args.at c.requires.combinable.positive)

@@ -5,9 +5,10 @@ use Rattle.std.proofs.lemmas.List.Elements.{All-take}
 use Rattle.std.proofs.lemmas.Nat.Gcd.{dvd-zero}
 use Rattle.row_definitions.specs.Rows.{entry, divided}
 use Rattle.row_definitions.specs.Combination.{FitsEntry}
-use Rattle.row_definitions.proofs.Numbers.{divided-zero}
+use Rattle.row_definitions.proofs.Numbers.{divided-zero, above_zero}
 use Rattle.row_definitions.proofs.Divisors.{Divides, All-from_Divides}
 use Rattle.row_definitions.proofs.Combinations.{entry-divided}
+use Rattle.fraction_rows.specs.Divisors.{size_of}
 use Rattle.fraction_rows.proofs.Written.{written, kept-written, entry-written, take-written, drop-written}
 use Rattle.fraction_rows.proofs.Scan.{Divides-more}
 use Rattle.fraction_rows.proofs.Quotients.{undivided, FitsEntry-undivided}
@@ -30,7 +31,7 @@ module _ (d : ℕ) (old row : List ℤ) (i : ℕ) (so_far : row ≡ written (map
 pub loop-column-preserved-then-entry-eq0 : goal.loop-column-preserved-then-entry-eq0
 loop-column-preserved-then-entry-eq0 c =
     let i = c.loop-column.column in
-    let d = unsigned_abs c.args.divisor.divisor in
+    let d = size_of c.args.divisor in
     let old = c.args.row.now in
     let x_fits : SFits w128 (entry c.loop-column.row i) = search rules in
     let zero_there : entry old i ≡ pos 0 = sym (next d old c.loop-column.row i c.loop-column.invariant.so_far c.loop-column-test.true x_fits) ∙ ap (to_z w128) c.if-entry-eq0.true in
@@ -43,31 +44,29 @@ pub quotient-requires : goal.quotient-requires
 quotient-requires c =
     let i = c.loop-column.column in
     let x_fits : SFits w128 (entry c.loop-column.row i) = search rules in
-    subst FitsEntry (sym (next (unsigned_abs c.args.divisor.divisor) c.args.row.now c.loop-column.row i c.loop-column.invariant.so_far c.loop-column-test.true x_fits)) (c.requires i (pos 0) c.loop-column-test.true)
+    subst FitsEntry (sym (next (size_of c.args.divisor) c.args.row.now c.loop-column.row i c.loop-column.invariant.so_far c.loop-column-test.true x_fits)) (c.requires i (pos 0) c.loop-column-test.true)
 
 pub multiply-requires : goal.multiply-requires
 multiply-requires c =
     let i = c.loop-column.column in
-    let factor = c.args.divisor.divisor in
-    let d = unsigned_abs factor in
+    let d = size_of c.args.divisor in
     let old = c.args.row.now in
-    let factor_fits : SFits w128 factor = search rules in
-    subst₂ (λ z r. All (λ x. FitsEntry (x *ℤ z)) r) (sym (to_z-of_z factor_fits)) (sym (front d old c.loop-column.row i c.loop-column.invariant.so_far c.loop-column-test.true))
-    (FitsEntry-undivided factor (take i old) c.args.divisor.positive c.loop-column.invariant.divides (All-take FitsEntry i old c.requires))
+    let size_fits : SFits w128 c.size-size.result = search rules in
+    subst₂ (λ z r. All (λ x. FitsEntry (x *ℤ z)) r) (sym (to_z-of_z size_fits ∙ c.size-size.ensures.value)) (sym (front d old c.loop-column.row i c.loop-column.invariant.so_far c.loop-column-test.true))
+    (FitsEntry-undivided (pos d) (take i old) (above_zero d c.size-size.ensures.positive) c.loop-column.invariant.divides (All-take FitsEntry i old c.requires))
 
 pub returns-in-None-clause-unchanged : goal.returns-in-None-clause-unchanged
 returns-in-None-clause-unchanged c =
     let i = c.loop-column.column in
-    let factor = c.args.divisor.divisor in
-    let d = unsigned_abs factor in
+    let d = size_of c.args.divisor in
     let old = c.args.row.now in
-    let factor_fits : SFits w128 factor = search rules in
-    let first = c.multiply.ensures ∙ ap₂ (λ z r. map (λ x. x *ℤ z) r) (to_z-of_z factor_fits) (front d old c.loop-column.row i c.loop-column.invariant.so_far c.loop-column-test.true)
-    ∙ undivided factor (take i old) c.args.divisor.positive c.loop-column.invariant.divides in
+    let size_fits : SFits w128 c.size-size.result = search rules in
+    let first = c.multiply.ensures ∙ ap₂ (λ z r. map (λ x. x *ℤ z) r) (to_z-of_z size_fits ∙ c.size-size.ensures.value) (front d old c.loop-column.row i c.loop-column.invariant.so_far c.loop-column-test.true)
+    ∙ undivided (pos d) (take i old) (above_zero d c.size-size.ensures.positive) c.loop-column.invariant.divides in
     ap₂ (λ p q. p ++ q) first (back d old c.loop-column.row i c.loop-column.invariant.so_far c.loop-column-test.true) ∙ take-append-drop i old
 
 pub returns-clause-divides : goal.returns-clause-divides
 returns-clause-divides c =
-    let d = unsigned_abs c.args.divisor.divisor in
+    let d = size_of c.args.divisor in
     let old = c.args.row.now in
     All-from_Divides d old (subst (Divides d) (take_all c.loop-column.column old c.loop-column-test.false) c.loop-column.invariant.divides)

@@ -1,5 +1,5 @@
 use Rattle.std.proofs.Common.{◌≡◌, ◌∙◌, ℕ, arith, refl, subst}
-use Rattle.pivot_rule.proofs.Steps.{RunSoFar, run_none, run_choosable, run_more, ends_best, ends_wide, ends_out}
+use Rattle.pivot_rule.proofs.Steps.{RunSoFar, run_none, run_choosable, run_not_basic, run_more, ends_best, ends_wide, ends_out}
 use Rattle.pivot_rule.proofs.bland.run.Goals as goal
 
 pub loop-pivots-init : goal.loop-pivots-init
@@ -7,6 +7,9 @@ loop-pivots-init c = record { run = run_none c.args.tableau.now c.requires; shap
 
 pub choose-requires : goal.choose-requires
 choose-requires c = run_choosable c.args.tableau.now c.loop-pivots.tableau c.loop-pivots.pivots c.requires c.loop-pivots.invariant.run
+
+pub pivot-requires-clause-not_basic : goal.pivot-requires-clause-not_basic
+pivot-requires-clause-not_basic c = run_not_basic c.args.tableau.now c.loop-pivots.tableau c.loop-pivots.pivots c.in-Some.choice.row c.in-Some.choice.column c.requires c.loop-pivots.invariant.run c.in-Some.ensures.some
 
 pub returns-in_default-clause-end : goal.returns-in_default-clause-end
 returns-in_default-clause-end c = ends_best c.args.tableau.now c.loop-pivots.tableau c.args.budget c.loop-pivots.pivots (omega arith) c.loop-pivots.invariant.run c.in_default.ensures.none

@@ -46,7 +46,7 @@ unfolding power
 invariant_of-result-clause-inverted c =
     let n = c.args.divisor in
     let inverse_fits : SFits w128 c.inverse_of.result = search rules in
-    subst (λ m. HasInverse m (count_trailing_zeros 128 n) (to_z w128 (of_z w128 c.inverse_of.result))) (sym (ap unsigned_abs (to_z_pos w128 n c.requires.fits))) (record {
+    subst (λ m. HasInverse w128 m (count_trailing_zeros 128 n) (to_z w128 (of_z w128 c.inverse_of.result))) (sym (ap unsigned_abs (to_z_pos w128 n c.requires.fits))) (record {
       is = whole n c.requires.positive c.requires.fits;
       unit = ap (λ z. int_wrap w128 (pos (n / power n) *ℤ z)) (to_z-of_z inverse_fits) ∙ ap (λ z. int_wrap w128 (z *ℤ c.inverse_of.result)) (sym (signed n c.requires.positive c.requires.fits)) ∙ c.inverse_of.ensures;
     })

@@ -1,10 +1,11 @@
-use Rattle.std.proofs.Common.{◌≡◌, ◌≤◌, ◌<◌, ◌-◌, ◌*◌, ◌%◌, ◌^◌, ◌*ℤ◌, ℤ, ap, of_z, to_z, subst, sym, ◌∙◌, unsigned_abs, le_refl, SFits, to_z-of_z, rules, arith}
+use Rattle.std.proofs.Common.{◌≡◌, ◌≤◌, ◌<◌, ◌-◌, ◌*◌, ◌%◌, ◌^◌, ◌*ℤ◌, ℤ, ap, of_z, to_z, subst, sym, ◌∙◌, unsigned_abs, le_refl, lt_of_le_of_lt, SFits, to_z-of_z, rules, arith}
 use Rattle.std.specs.Int.{◌∣◌, w128, int_wrapping_mul}
-use Rattle.std.proofs.lemmas.Int.{fits_signed_mul, wrapping_mul_is}
+use Rattle.std.proofs.lemmas.Int.{fits_signed_mul, fits_signed_from_abs, wrapping_mul_is}
 use Rattle.std.proofs.Math.Nat.{div-mul-le_self}
 use lib.Signed.{shr_z}
 use Rattle.row_definitions.specs.Rows.{divided}
 use Rattle.row_definitions.specs.Combination.{FitsEntry}
+use Rattle.row_definitions.proofs.Numbers.{unsigned_abs-divided-le}
 use Rattle.fraction_rows.specs.declared.exact.ExactDivisor.{ExactDivisor}
 use Rattle.fraction_rows.proofs.Inverses.{exact_quotient, divides_product, multiplied_back, quotient-le}
 use Rattle.fraction_rows.proofs.exact.ExactDivisor.quotient.Goals as goal
@@ -17,7 +18,7 @@ product s x = to_z w128 (of_z w128 (shr_z (to_z w128 (of_z w128 x)) (2 ^ s.twos)
 product_is : (s : ExactDivisor) (x : ℤ) → FitsEntry x → SFits w128 x → SFits w128 s.inverse → SFits w128 (shr_z x (2 ^ s.twos)) → unsigned_abs s.divisor ∣ unsigned_abs x → product s x ≡ divided (unsigned_abs s.divisor) x
 product_is s x fits x_fits inverse_fits shift_fits divides =
     ap (λ z. int_wrapping_mul w128 (shr_z z (2 ^ s.twos)) s.inverse) (to_z-of_z x_fits) ∙ wrapping_mul_is w128 (shr_z x (2 ^ s.twos)) s.inverse shift_fits inverse_fits
-    ∙ exact_quotient (unsigned_abs s.divisor) s.twos s.inverse x s.inverted divides fits
+    ∙ exact_quotient w128 (unsigned_abs s.divisor) s.twos s.inverse x s.inverted divides (fits_signed_from_abs w128 (divided (unsigned_abs s.divisor) x) (lt_of_le_of_lt (unsigned_abs-divided-le (unsigned_abs s.divisor) x) fits))
 
 product_fits : (s : ExactDivisor) (x : ℤ) → unsigned_abs (product s x) ≤ s.largest → SFits w128 (product s x *ℤ s.divisor)
 product_fits s x small =

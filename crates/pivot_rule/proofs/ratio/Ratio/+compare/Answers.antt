@@ -5,7 +5,7 @@ use Rattle.pivot_rule.proofs.ratio.Ratio.+compare.Goals as goal
 use Rattle.pivot_rule.proofs.ratio.Ratio.+compare.Goals.{then-rest-eq0-via-then-rest-eq0, then-rest-eq0-via-else-rest-eq0+then-other_rest-eq0}
 
 pub returns-then-whole-other_whole : goal.returns-then-whole-other_whole
-returns-then-whole-other_whole t c = by_whole c.args.self.numerator c.args.self.denominator c.args.other.numerator c.args.other.denominator c.cmp.result c.requires.denominator c.requires.other_denominator c.if-whole-other_whole.true (ranked _ _ _ c.cmp.ensures)
+returns-then-whole-other_whole t c = by_whole c.args.self.numerator c.args.self.denominator c.args.other.numerator c.args.other.denominator c.cmp-then-whole-other_whole.result c.requires.denominator c.requires.other_denominator c.if-whole-other_whole.true (ranked _ _ _ c.cmp-then-whole-other_whole.ensures)
 
 pub returns-then-rest-eq0 : goal.returns-then-rest-eq0
 returns-then-rest-eq0 t c =
