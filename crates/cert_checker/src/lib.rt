@@ -21,3 +21,6 @@ mod terms;
 
 pub use answer::{Answer, Checked, Part};
 pub use checking::check;
+
+#[cfg(test)]
+mod tests;
