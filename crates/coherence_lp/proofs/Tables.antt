@@ -1,7 +1,7 @@
 -- The table of gains of a sheet, and what its rows say of who leads.
-use Rattle.std.proofs.Common.{◌≡◌, ℕ, zero, suc, ◌+◌, ◌*◌, ◌<◌, ◌≤◌, Bool, true, false, not, ◌&&◌, ◌||◌, nat_lt, List, [], ◌∷◌, ◌++◌, length, map, take, drop, filter, cond, refl, sym, ap, ap₂, ◌∙◌, subst, arith}
+use Rattle.std.proofs.Common.{◌≡◌, ℕ, ◌+◌, ◌*◌, ◌<◌, ◌≤◌, not, ◌&&◌, ◌||◌, nat_lt, List, [], length, map, drop, sym, ap, ap₂, ◌∙◌, arith}
 use Rattle.std.specs.Prelude.{slice_index_or, int_le, int_lt}
-use Rattle.std.specs.List.{All, flat_map, list_any, enumerate_from}
+use Rattle.std.specs.List.{All, flat_map, enumerate_from}
 use Rattle.std.proofs.lemmas.List.{length-map, get_or-map, length-take, length-drop}
 use Rattle.std.proofs.lemmas.List.Elements.{All-map}
 use Rattle.std.proofs.lemmas.List.FromFn.{length-enumerate_from, get_or-enumerate_from}
@@ -10,10 +10,10 @@ use Rattle.row_definitions.specs.Rows.{entry}
 use Rattle.scan_types.specs.declared.offer.Offer.{Offer}
 use Rattle.scan_types.specs.declared.outcome.Outcome.{Outcome}
 use Rattle.settlement_definitions.specs.Gain.{gain}
-use Rattle.judging_definitions.specs.Columns.{gains_no_less, gains_more_somewhere, dominates, is_undominated}
-use Rattle.judging_laws.proofs.FlatRows.{flat, flat-map, length-flat, row-flat}
+use Rattle.judging_definitions.specs.Columns.{dominates, is_undominated}
+use Rattle.judging_laws.proofs.FlatRows.{flat-map, length-flat, row-flat}
 use Rattle.judging_laws.proofs.Coherence.{any_outcome}
-use Rattle.coherence_lp.specs.Comparisons.{all_below, any_below, row_dominates, table_row}
+use Rattle.coherence_lp.specs.Comparisons.{any_below, row_dominates, table_row}
 use Rattle.coherence_lp.proofs.Below.{all_places, any_places, all_same, any_same}
 
 -- the table of a sheet
@@ -47,10 +47,10 @@ rows_compare classes a b =
     let at : (offer : Offer) (j : ℕ) → j < length classes → entry (map (gain offer) classes) j ≡ gain offer (slice_index_or classes j any_outcome) = λ offer j h. get_or-map (gain offer) classes j any_outcome (pos 0) h in
     let n = length classes in
     ap₂ (λ x y. x && (y || nat_lt a.0 b.0))
-      (all_places (λ x. int_le (gain b.1 x) (gain a.1 x)) classes any_outcome
-        ∙ all_same (λ j. int_le (gain b.1 (slice_index_or classes j any_outcome)) (gain a.1 (slice_index_or classes j any_outcome))) (λ j. int_le (entry (map (gain b.1) classes) j) (entry (map (gain a.1) classes) j)) n (λ j h. sym (ap₂ int_le (at b.1 j h) (at a.1 j h))))
-      (any_places (λ x. int_lt (gain b.1 x) (gain a.1 x)) classes any_outcome
-        ∙ any_same (λ j. int_lt (gain b.1 (slice_index_or classes j any_outcome)) (gain a.1 (slice_index_or classes j any_outcome))) (λ j. int_lt (entry (map (gain b.1) classes) j) (entry (map (gain a.1) classes) j)) n (λ j h. sym (ap₂ int_lt (at b.1 j h) (at a.1 j h))))
+    (all_places (λ x. int_le (gain b.1 x) (gain a.1 x)) classes any_outcome
+    ∙ all_same (λ j. int_le (gain b.1 (slice_index_or classes j any_outcome)) (gain a.1 (slice_index_or classes j any_outcome))) (λ j. int_le (entry (map (gain b.1) classes) j) (entry (map (gain a.1) classes) j)) n (λ j h. sym (ap₂ int_le (at b.1 j h) (at a.1 j h))))
+    (any_places (λ x. int_lt (gain b.1 x) (gain a.1 x)) classes any_outcome
+    ∙ any_same (λ j. int_lt (gain b.1 (slice_index_or classes j any_outcome)) (gain a.1 (slice_index_or classes j any_outcome))) (λ j. int_lt (entry (map (gain b.1) classes) j) (entry (map (gain a.1) classes) j)) n (λ j h. sym (ap₂ int_lt (at b.1 j h) (at a.1 j h))))
 
 -- whether an offer leads, by the table
 pub leads_by_table : (classes : List Outcome) (offers : List Offer) (i : ℕ) (o : Offer) → i < length offers → is_undominated classes (enumerate_from 0 offers) (slice_index_or (enumerate_from 0 offers) i (0, o)) ≡ not (any_below (λ k. row_dominates (table_row (table_of classes offers) (length classes) k) (table_row (table_of classes offers) (length classes) i) (length classes) (nat_lt k i)) (length offers))
@@ -63,5 +63,5 @@ leads_by_table classes offers i o within =
     λ k h. ap₂ (dominates classes) (at k h) (at i within) ∙ rows_compare classes (k, slice_index_or offers k o) (i, slice_index_or offers i o)
     ∙ sym (ap₂ (λ x y. row_dominates x y m (nat_lt k i)) (row_is classes offers k o h) (row_is classes offers i o within)) in
     ap not (any_places (λ other. dominates classes other (slice_index_or all i (0, o))) all (0, o)
-      ∙ ap (any_below (λ k. dominates classes (slice_index_or all k (0, o)) (slice_index_or all i (0, o)))) (length-enumerate_from 0 offers)
-      ∙ any_same (λ k. dominates classes (slice_index_or all k (0, o)) (slice_index_or all i (0, o))) (λ k. row_dominates (table_row t m k) (table_row t m i) m (nat_lt k i)) (length offers) each)
+    ∙ ap (any_below (λ k. dominates classes (slice_index_or all k (0, o)) (slice_index_or all i (0, o)))) (length-enumerate_from 0 offers)
+    ∙ any_same (λ k. dominates classes (slice_index_or all k (0, o)) (slice_index_or all i (0, o))) (λ k. row_dominates (table_row t m k) (table_row t m i) m (nat_lt k i)) (length offers) each)

@@ -1,5 +1,5 @@
 -- Tests of all numbers below a bound, and of the gains of two offers class by class.
-use Rattle.std.specs.Prelude.{ℕ, zero, suc, Bool, true, false, ◌&&◌, ◌||◌, nat_lt, List, take, drop, ◌*◌, ℤ, int_le, int_lt}
+use Rattle.std.specs.Prelude.{ℕ, zero, suc, Bool, true, false, ◌&&◌, ◌||◌, List, take, drop, ◌*◌, ℤ, int_le, int_lt}
 use Rattle.row_definitions.specs.Rows.{entry}
 
 -- whether each number below a bound passes

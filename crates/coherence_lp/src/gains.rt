@@ -24,8 +24,8 @@ pub fn gain_table(
     Ok(gains)
 }
 
-// Appends what the offer gains at each class.
-fn push_gains(
+/// Appends what the offer gains at each class.
+pub fn push_gains(
     gains: &mut Vec<i128>,
     offer: &Offer,
     classes: &[Outcome],

@@ -33,11 +33,7 @@ impl OfferList {
 
 /// The offers that lead: those that no offer of the sheet dominates. `classes` are those of the sheet. Computes each gain
 /// once, and compares each pair of offers up to the first class where the one gains less: O(offers^2 * classes) at most.
-pub fn leading(
-    alloc: Global,
-    sheet: &Sheet,
-    classes: &ClassList,
-) -> Result<OfferList, WantOfMemory>
+pub fn leading(alloc: Global, sheet: &Sheet, classes: &ClassList) -> Result<OfferList, WantOfMemory>
     requires { classes.now ≡ classes_of sheet.now }
     ensures { IfOk result (λ list. list ≡ map (λ offer. offer.0) (leading_offers sheet.now classes.now)) }
 {

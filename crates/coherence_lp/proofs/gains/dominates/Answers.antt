@@ -1,10 +1,10 @@
-use Rattle.std.proofs.Common.{◌≡◌, ℕ, Bool, true, false, ◌&&◌, ◌||◌, length, sym, ap, arith}
+use Rattle.std.proofs.Common.{◌≡◌, false, ◌&&◌, ◌||◌, length, sym, ap, arith}
 use Rattle.std.specs.Prelude.{int_le, int_lt}
 use Rattle.std.proofs.lemmas.Int.{ints}
 use lib.IntN.{ℤ}
 use lib.Signed.{◌<ℤ◌}
 use Rattle.row_definitions.specs.Rows.{entry}
-use Rattle.coherence_lp.specs.Comparisons.{all_below, any_below}
+use Rattle.coherence_lp.specs.Comparisons.{any_below}
 use Rattle.coherence_lp.proofs.Below.{all_fails}
 use Rattle.coherence_lp.proofs.gains.dominates.Goals as goal
 

@@ -1,4 +1,4 @@
-use Rattle.std.proofs.Common.{◌≡◌, ℕ, ◌+◌, ◌*◌, ◌≤◌, Bool, true, false, ◌||◌, nat_lt, length, sym, ap, ap₂, ◌∙◌, subst, arith, add-one, mul-le-mul_right}
+use Rattle.std.proofs.Common.{◌≡◌, ℕ, ◌+◌, ◌*◌, ◌≤◌, Bool, false, ◌||◌, nat_lt, length, sym, ap, ap₂, ◌∙◌, arith, add-one, mul-le-mul_right}
 use Rattle.coherence_lp.specs.Comparisons.{any_below, row_dominates, table_row}
 use Rattle.coherence_lp.proofs.Below.{any_passes}
 use Rattle.coherence_lp.proofs.Tables.{length-table_row}

@@ -1,4 +1,4 @@
-use Rattle.std.proofs.Common.{◌≡◌, ℕ, ◌+◌, ◌*◌, ◌<◌, ◌≤◌, Bool, true, false, not, cond, List, [], ◌∷◌, ◌++◌, length, map, take, filter, refl, sym, ap, ap₂, ◌∙◌, subst, arith}
+use Rattle.std.proofs.Common.{◌≡◌, ℕ, ◌+◌, ◌<◌, Bool, true, false, not, cond, List, [], ◌∷◌, ◌++◌, length, map, take, filter, refl, sym, ap, ap₂, ◌∙◌, subst, arith}
 use Rattle.std.specs.Prelude.{slice_index_or, nat_lt}
 use Rattle.std.specs.List.{All, enumerate_from}
 use Rattle.std.proofs.lemmas.List.{take_all, map-append, append-nil}
@@ -50,13 +50,13 @@ loop-i-preserved c =
     let test : p (slice_index_or all i (0, o)) ≡ not c.is_dominated.result = leads ∙ ap not (sym found) in
     elim c.if-not-is_dominated.branch [
       | then-not-is_dominated+in_ok-push w ↦
-        ap (λ v. v.items) w.numbers-is ∙ w.in_ok-push.ensures.items
-        ∙ ap₂ (λ xs x. xs ++ x ∷ []) c.loop-i.invariant (sym number)
-        ∙ sym (more p all i (0, o) true within (test ∙ ap not w.if-not-is_dominated.true))
+          ap (λ v. v.items) w.numbers-is ∙ w.in_ok-push.ensures.items
+          ∙ ap₂ (λ xs x. xs ++ x ∷ []) c.loop-i.invariant (sym number)
+          ∙ sym (more p all i (0, o) true within (test ∙ ap not w.if-not-is_dominated.true))
       | else-not-is_dominated w ↦
-        ap (λ v. v.items) w.numbers-is ∙ c.loop-i.invariant
-        ∙ sym (append-nil (map (λ (e : ℕ × Offer). e.0) (filter p (take i all))))
-        ∙ sym (more p all i (0, o) false within (test ∙ ap not w.if-not-is_dominated.false))
+          ap (λ v. v.items) w.numbers-is ∙ c.loop-i.invariant
+          ∙ sym (append-nil (map (λ (e : ℕ × Offer). e.0) (filter p (take i all))))
+          ∙ sym (more p all i (0, o) false within (test ∙ ap not w.if-not-is_dominated.false))
     ]
 
 pub returns : goal.returns
