@@ -5,3 +5,4 @@ pub mod Changes
 pub mod Counts
 pub mod Rising
 pub mod Live
+pub mod More

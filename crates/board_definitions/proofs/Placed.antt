@@ -2,8 +2,9 @@
 use Rattle.std.proofs.Common.{ℕ, ◌≡◌, ◌≤◌, ◌<◌, inl, inr, ⊎_elim, Bool, true, false, cond, List, [], ◌∷◌, refl, sym, ap, ◌∙◌, Some, None, arith}
 use Rattle.std.specs.Prelude.{◌⊎◌, Option, find, reverse, option_and_then}
 use Rattle.std.specs.Option.{option_map_or, unwrap_or}
+use Rattle.std.proofs.Props.{props}
 use Rattle.std.proofs.lemmas.Bool.{cases_Bool, cases_lt}
-use Rattle.scan_types.specs.declared.limits.TheConstants.{MOST_LIMIT}
+use Rattle.scan_types.specs.declared.limits.TheConstants.{MOST_FEEDS, MOST_LIMIT}
 use Rattle.scan_types.specs.declared.offer.Offer.{Offer}
 use Rattle.scan_types.specs.declared.odds.Odds.{Odds}
 use Rattle.scan_types.specs.declared.rule.VoidRule.{VoidRule}
@@ -41,9 +42,9 @@ and_then_some g None y h = absurd (cc h)
 and_then_some g (Some x) y h = (x, refl, h)
 
 within_terms : (feed : ℕ) (selection : Selection) (odds : Odds) (limit : ℕ) (rule : VoidRule)
-    (a : (7 < feed) ⊎ (feed ≤ 7)) (b : (limit < 1) ⊎ (1 ≤ limit)) (c : (MOST_LIMIT < limit) ⊎ (limit ≤ MOST_LIMIT)) (offer : Offer) →
+    (a : (feed < MOST_FEEDS) ⊎ (MOST_FEEDS ≤ feed)) (b : (limit < 1) ⊎ (1 ≤ limit)) (c : (MOST_LIMIT < limit) ⊎ (limit ≤ MOST_LIMIT)) (offer : Offer) →
     offer_within feed selection odds limit rule a b c ≡ Some offer → HasTerms offer feed selection odds limit rule
-within_terms feed selection odds limit rule (inr a) (inr b) (inr c) offer h =
+within_terms feed selection odds limit rule (inl a) (inr b) (inr c) offer h =
     let made : Offer = record { feed = feed; selection = selection; odds = odds; limit = limit; rule = rule; feed_at_most = a; limit_at_least = b; limit_at_most = c } in
     let same : made ≡ offer = some_injective made offer h in
     record {
@@ -53,15 +54,15 @@ within_terms feed selection odds limit rule (inr a) (inr b) (inr c) offer h =
       limit_is = ap (λ (o : Offer). o.limit) (sym same);
       rule_is = ap (λ (o : Offer). o.rule) (sym same);
     }
-within_terms feed selection odds limit rule (inl a) b c offer h = absurd (cc h)
-within_terms feed selection odds limit rule (inr a) (inl b) c offer h = absurd (cc h)
-within_terms feed selection odds limit rule (inr a) (inr b) (inl c) offer h = absurd (cc h)
+within_terms feed selection odds limit rule (inr a) b c offer h = absurd (cc h)
+within_terms feed selection odds limit rule (inl a) (inl b) c offer h = absurd (cc h)
+within_terms feed selection odds limit rule (inl a) (inr b) (inl c) offer h = absurd (cc h)
 
 pub offer_with_terms : (feed : ℕ) (selection : Selection) (odds : Odds) (limit : ℕ) (rule : VoidRule) (offer : Offer) →
     offer_with feed selection odds limit rule ≡ Some offer → HasTerms offer feed selection odds limit rule
 unfolding offer_with
 offer_with_terms feed selection odds limit rule offer h =
-    within_terms feed selection odds limit rule (cases_lt 7 feed) (cases_lt limit 1) (cases_lt MOST_LIMIT limit) offer h
+    within_terms feed selection odds limit rule (cases_lt feed MOST_FEEDS) (cases_lt limit 1) (cases_lt MOST_LIMIT limit) offer h
 
 -- an entry that makes an offer is a quote of its feed and selection
 made : (rules : List (Option VoidRule)) (event : Event) (m : List ℕ) (f n : ℕ) (offer : Offer) → is_about m f n event ≡ true → offer_of rules event ≡ Some offer →
@@ -90,3 +91,24 @@ standing_placed rules entries m f n offer h =
     let about : is_about m f n last.0.event ≡ true = find_passes (λ (entry : Entry). is_about m f n entry.event) (reverse entries) last.0 last.1 in
     let it = made rules last.0.event m f n offer about last.2 in
     (it.0, ap (λ (o : Option Entry). option_map_or (λ (entry : Entry). is_quote entry.event) o false) last.1 ∙ it.1)
+
+at_most_once : (a b : ℕ) → IsProp (a ≤ b)
+at_most_once a b = hlevel props
+
+-- an offer is the one with its terms
+within_back : (o : Offer) (a : (o.feed < MOST_FEEDS) ⊎ (MOST_FEEDS ≤ o.feed)) (b : (o.limit < 1) ⊎ (1 ≤ o.limit)) (c : (MOST_LIMIT < o.limit) ⊎ (o.limit ≤ MOST_LIMIT)) →
+    offer_within o.feed o.selection o.odds o.limit o.rule a b c ≡ Some o
+within_back o (inr a) b c = let fits : o.feed < MOST_FEEDS = o.feed_at_most in absurd (omega (arith, fits, a))
+within_back o (inl a) (inl b) c = let some : 1 ≤ o.limit = o.limit_at_least in absurd (omega (arith, some, b))
+within_back o (inl a) (inr b) (inl c) = let few : o.limit ≤ MOST_LIMIT = o.limit_at_most in absurd (omega (arith, few, c))
+within_back o (inl a) (inr b) (inr c) =
+    let F : (p : o.feed < MOST_FEEDS) → (q : 1 ≤ o.limit) → (r : o.limit ≤ MOST_LIMIT) → Offer = λ p q r. record {
+      feed = o.feed; selection = o.selection; odds = o.odds; limit = o.limit; rule = o.rule; feed_at_most = p; limit_at_least = q; limit_at_most = r;
+    } in
+    ap (λ (p : o.feed < MOST_FEEDS). Some (F p b c)) (at_most_once _ _ a o.feed_at_most)
+    ∙ ap (λ (q : 1 ≤ o.limit). Some (F o.feed_at_most q c)) (at_most_once _ _ b o.limit_at_least)
+    ∙ ap (λ (r : o.limit ≤ MOST_LIMIT). Some (F o.feed_at_most o.limit_at_least r)) (at_most_once _ _ c o.limit_at_most)
+
+pub offer_with_back : (o : Offer) → offer_with o.feed o.selection o.odds o.limit o.rule ≡ Some o
+unfolding offer_with
+offer_with_back o = within_back o (cases_lt o.feed MOST_FEEDS) (cases_lt o.limit 1) (cases_lt MOST_LIMIT o.limit)

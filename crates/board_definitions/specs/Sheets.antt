@@ -17,8 +17,8 @@ use Rattle.board_definitions.specs.Entries.{rule_of, is_about, is_quote}
 
 -- the offer with these terms, once it is decided whether they are in range
 abbrev pub offer_within : (feed : ℕ) → Selection → Odds → (limit : ℕ) → VoidRule →
-    (7 < feed) ⊎ (feed ≤ 7) → (limit < 1) ⊎ (1 ≤ limit) → (MOST_LIMIT < limit) ⊎ (limit ≤ MOST_LIMIT) → Option Offer
-offer_within feed selection odds limit rule (inr fits) (inr some) (inr few) =
+    (feed < MOST_FEEDS) ⊎ (MOST_FEEDS ≤ feed) → (limit < 1) ⊎ (1 ≤ limit) → (MOST_LIMIT < limit) ⊎ (limit ≤ MOST_LIMIT) → Option Offer
+offer_within feed selection odds limit rule (inl fits) (inr some) (inr few) =
     Some (record {
       feed = feed;
       selection = selection;
@@ -34,7 +34,7 @@ offer_within feed selection odds limit rule _ _ _ = None
 -- the offer with these terms, and none if the feed or the limit is out of range
 unfoldable pub offer_with : ℕ → Selection → Odds → ℕ → VoidRule → Option Offer
 offer_with feed selection odds limit rule =
-    offer_within feed selection odds limit rule (cases_lt 7 feed) (cases_lt limit 1) (cases_lt MOST_LIMIT limit)
+    offer_within feed selection odds limit rule (cases_lt feed MOST_FEEDS) (cases_lt limit 1) (cases_lt MOST_LIMIT limit)
 
 -- the offer that an entry makes: a quote's, under the rule of its feed
 abbrev pub offer_of : List (Option VoidRule) → Event → Option Offer

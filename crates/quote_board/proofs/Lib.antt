@@ -1,0 +1,10 @@
+pub mod Slots
+pub mod Entries
+pub mod Waits
+pub mod Holds
+pub mod Feeds
+pub mod Sound
+pub mod Stood
+pub mod Lists
+pub mod Picks
+pub mod Start

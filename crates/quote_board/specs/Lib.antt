@@ -1,0 +1,4 @@
+pub mod Books
+pub mod Views
+pub mod Kept
+pub mod Answers
