@@ -1,3 +1,4 @@
+pub mod Checked
 pub mod Best
 pub mod Weights
 pub mod Floors

@@ -5,7 +5,7 @@
 //! - `best`: the offer of greatest odds on each result.
 //! - `weights`, `divisor`: the weights of the three results, in lowest terms.
 //! - `floors`: the stakes that return the same at each result, rounded down to whole units.
-//! - `verdict`: the finding itself, `first_finding`.
+//! - `verdict`: the finding itself, `first_finding`. `checked`: the separate checker says yes to it.
 //! - `laws`: a sheet has one finding, and which limit scales the floors.
 //!
 //! `first_finding` walks the offers three times, once for the best odds on each result, and then fills
@@ -13,6 +13,7 @@
 #![tactic(auto)]
 
 mod best;
+mod checked;
 mod divisor;
 mod floors;
 pub mod laws;

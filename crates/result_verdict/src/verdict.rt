@@ -4,6 +4,7 @@ ghost use Rattle.result_verdict.specs.Findings.{IsFirstFinding, IsRightFirst};
 
 use crate::First;
 use crate::best::{Trio, best_on};
+use crate::checked::checked;
 use crate::floors::Floors;
 use crate::weights::{is_underround, sure, weighing};
 use finding_definitions::Stakes;
@@ -17,13 +18,26 @@ pub fn is_result_sheet(sheet: &Sheet) -> bool
     sheet.offers().iter().all(is_result_offer)
 }
 
+/// The finding of a sheet of bets on the result, of books that give the stakes back at an abandonment. The
+/// separate checker has looked at its certificate and said yes.
+///
+/// Takes memory for the certificate alone.
+pub fn first_finding(alloc: Global, sheet: &Sheet) -> Result<First, WantOfMemory>
+    requires { IsResultSheet sheet.now }
+    ensures exact { IfOk result (λ finding. IsFirstFinding sheet.now finding) }
+    ensures right { IfOk result (λ finding. IsRightFirst sheet.now finding) }
+{
+    let finding = result_finding(alloc, sheet)?;
+    Ok(checked(sheet, finding))
+}
+
 /// The finding of a sheet of bets on the result, of books that give the stakes back at an abandonment.
 ///
 /// Where no offer backs one of the results, all weight on that result shows that nothing is to be
 /// gained. Else the odds decide: where the reciprocals of the best odds on the three results sum to one
 /// or more, these reciprocals are weights under which no offer gains. Else the stakes on the three best
 /// offers are in proportion to these weights, as great as the limits allow, and rounded down.
-pub fn first_finding(alloc: Global, sheet: &Sheet) -> Result<First, WantOfMemory>
+fn result_finding(alloc: Global, sheet: &Sheet) -> Result<First, WantOfMemory>
     requires { IsResultSheet sheet.now }
     ensures exact { IfOk result (λ finding. IsFirstFinding sheet.now finding) }
     ensures right { IfOk result (λ finding. IsRightFirst sheet.now finding) }

@@ -2,7 +2,7 @@ use Rattle.std.proofs.Common.{inl}
 use Rattle.scan_types.specs.declared.selection.Selection.TheVariants.{Home, Draw, Away}
 use Rattle.result_verdict.proofs.Prices.{unbacked_draw, unbacked_away, unbacked_home}
 use Rattle.result_verdict.proofs.Outcomes.{sure_away, sure_home, right_as, IsUnbacked-same, IsBest-same}
-use Rattle.result_verdict.proofs.verdict.first_finding.Goals as goal
+use Rattle.result_verdict.proofs.verdict.result_finding.Goals as goal
 
 pub returns-in_default-clause-right : goal.returns-in_default-clause-right
 returns-in_default-clause-right c =
