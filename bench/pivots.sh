@@ -18,12 +18,12 @@ folder=$(mktemp -d)
 trap 'rm -rf "$folder"' EXIT
 
 mkdir -p "$folder/crates/pivot_bench/src"
-for crate in scan_types row_definitions pivot_definitions fraction_rows fraction_tableau pivot_rule; do
+for crate in want_of_memory row_definitions pivot_definitions fraction_rows fraction_tableau pivot_rule; do
     mkdir "$folder/crates/$crate"
     (cd "$top/crates/$crate" && tar cf - --exclude ./out .) | tar xf - -C "$folder/crates/$crate"
     grep "^$crate:" "$top/crates.txt" >> "$folder/crates.txt"
 done
-echo "pivot_bench: row_definitions pivot_definitions fraction_tableau pivot_rule scan_types" >> "$folder/crates.txt"
+echo "pivot_bench: row_definitions pivot_definitions fraction_tableau pivot_rule want_of_memory" >> "$folder/crates.txt"
 mkdir -p "$folder/crates/pivot_bench/specs" "$folder/crates/pivot_bench/proofs"
 
 cat > "$folder/crates/pivot_bench/src/main.rt" <<RATTLE
@@ -34,10 +34,10 @@ ghost use Rattle.pivot_rule.specs.Ends.{IsCappedStart};
 
 use fraction_tableau::{Program, Tableau};
 use pivot_rule::{RunEnd, run};
-use scan_types::WantOfMemory;
 use std::alloc::Global;
 use std::io;
 use std::time::Instant;
+use want_of_memory::WantOfMemory;
 
 const OFFERS: u32 = 256;
 const CLASSES: u32 = 98;

@@ -29,9 +29,9 @@ one_of h e place x at =
     ⊎_elim
     (λ (before : place < length h). inl (before, sym (slice_get-before h (e ∷ []) place before) ∙ at))
     (λ (past : length h ≤ place).
-        let within : place < length (h ++ e ∷ []) = slice_get_within (h ++ e ∷ []) place x at in
-        let last : place ≡ length h = omega (arith, within, past, length-append h (e ∷ [])) in
-        inr (last, some_injective e x (sym (slice_get-last h e) ∙ ap (slice_get (h ++ e ∷ [])) (sym last) ∙ at)))
+    let within : place < length (h ++ e ∷ []) = slice_get_within (h ++ e ∷ []) place x at in
+    let last : place ≡ length h = omega (arith, within, past, length-append h (e ∷ [])) in
+    inr (last, some_injective e x (sym (slice_get-last h e) ∙ ap (slice_get (h ++ e ∷ [])) (sym last) ∙ at)))
     (cases_lt place (length h))
 
 -- a legal entry keeps the history legal
@@ -41,12 +41,12 @@ unfolding IsLegal
 legal_more rules allows h e legal may = λ place x at.
     ⊎_elim
     (λ (before : (place < length h) × (slice_get h place ≡ Some x)).
-        let P : List Entry → Type 0 = λ xs. MayFollow rules allows xs x in
-        subst P (sym (take-append-le place h (e ∷ []) (omega (arith, before.0)))) (legal place x before.1))
+    let P : List Entry → Type 0 = λ xs. MayFollow rules allows xs x in
+    subst P (sym (take-append-le place h (e ∷ []) (omega (arith, before.0)))) (legal place x before.1))
     (λ (last : (place ≡ length h) × (e ≡ x)).
-        let P : List Entry → Type 0 = λ xs. MayFollow rules allows xs x in
-        let Q : Entry → Type 0 = λ y. MayFollow rules allows h y in
-        subst P (sym (take-append_seam h (e ∷ [])) ∙ ap (λ (k : ℕ). take k (h ++ e ∷ [])) (sym last.0)) (subst Q last.1 may))
+    let P : List Entry → Type 0 = λ xs. MayFollow rules allows xs x in
+    let Q : Entry → Type 0 = λ y. MayFollow rules allows h y in
+    subst P (sym (take-append_seam h (e ∷ [])) ∙ ap (λ (k : ℕ). take k (h ++ e ∷ [])) (sym last.0)) (subst Q last.1 may))
     (one_of h e place x at)
 
 pub nothing_is_legal : (rules : List (Option VoidRule)) (allows : List Offer → Finding → Type 0) → IsLegal rules allows []
@@ -67,10 +67,10 @@ pub live_back : (h : List Entry) (e : Entry) (pin : Pin) → IsLive (h ++ e ∷ 
 live_back h e pin live =
     ⊎_elim
     (λ (before : (pin.version < length h) × (slice_get h pin.version ≡ Some (record { caller = pin.caller; event = Pinned pin.match_name }))).
-        let both = or_parts (list_any (λ (x : Entry). closes pin.version x.event) (drop pin.version h)) (list_any (λ (x : Entry). closes pin.version x.event) (e ∷ []))
-            (sym (any_more (λ (x : Entry). closes pin.version x.event) h e pin.version (omega (arith, before.0))) ∙ live.open_) in
-        let last = or_parts (closes pin.version e.event) false both.1 in
-        inl (record { pinned = before.1; open_ = both.0 }, last.0))
+    let both = or_parts (list_any (λ (x : Entry). closes pin.version x.event) (drop pin.version h)) (list_any (λ (x : Entry). closes pin.version x.event) (e ∷ []))
+    (sym (any_more (λ (x : Entry). closes pin.version x.event) h e pin.version (omega (arith, before.0))) ∙ live.open_) in
+    let last = or_parts (closes pin.version e.event) false both.1 in
+    inl (record { pinned = before.1; open_ = both.0 }, last.0))
     (λ (last : (pin.version ≡ length h) × (e ≡ record { caller = pin.caller; event = Pinned pin.match_name })). inr last)
     (one_of h e pin.version (record { caller = pin.caller; event = Pinned pin.match_name }) live.pinned)
 
@@ -123,13 +123,16 @@ unpinned_back h e m place now =
     let at = change_at (h ++ e ∷ []) m place now in
     ⊎_elim
     (λ (before : (place < length h) × (slice_get h place ≡ Some at.0)).
-        let both = or_parts (list_any (λ (x : Entry). pins m x.event) (drop place h)) (list_any (λ (x : Entry). pins m x.event) (e ∷ []))
-            (sym (any_more (λ (x : Entry). pins m x.event) h e place (omega (arith, before.0))) ∙ now.unpinned) in
-        let last = or_parts (pins m e.event) false both.1 in
-        inl (record {
-          change = some_and_from (λ (x : Entry). IsTrue (changes m x.event)) (slice_get h place) at.0 before.1 at.2;
-          unpinned = both.0;
-        }, last.0))
+    let both = or_parts (list_any (λ (x : Entry). pins m x.event) (drop place h)) (list_any (λ (x : Entry). pins m x.event) (e ∷ []))
+    (sym (any_more (λ (x : Entry). pins m x.event) h e place (omega (arith, before.0))) ∙ now.unpinned) in
+    let last = or_parts (pins m e.event) false both.1 in
+    inl (
+      record {
+        change = some_and_from (λ (x : Entry). IsTrue (changes m x.event)) (slice_get h place) at.0 before.1 at.2;
+        unpinned = both.0;
+      },
+      last.0,
+    ))
     (λ (last : (place ≡ length h) × (e ≡ at.0)). inr (last.0, ap (λ (x : Entry). changes m x.event) last.1 ∙ at.2))
     (one_of h e place at.0 at.1)
 

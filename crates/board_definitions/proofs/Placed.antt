@@ -103,7 +103,14 @@ within_back o (inl a) (inl b) c = let some : 1 ≤ o.limit = o.limit_at_least in
 within_back o (inl a) (inr b) (inl c) = let few : o.limit ≤ MOST_LIMIT = o.limit_at_most in absurd (omega (arith, few, c))
 within_back o (inl a) (inr b) (inr c) =
     let F : (p : o.feed < MOST_FEEDS) → (q : 1 ≤ o.limit) → (r : o.limit ≤ MOST_LIMIT) → Offer = λ p q r. record {
-      feed = o.feed; selection = o.selection; odds = o.odds; limit = o.limit; rule = o.rule; feed_at_most = p; limit_at_least = q; limit_at_most = r;
+      feed = o.feed;
+      selection = o.selection;
+      odds = o.odds;
+      limit = o.limit;
+      rule = o.rule;
+      feed_at_most = p;
+      limit_at_least = q;
+      limit_at_most = r;
     } in
     ap (λ (p : o.feed < MOST_FEEDS). Some (F p b c)) (at_most_once _ _ a o.feed_at_most)
     ∙ ap (λ (q : 1 ≤ o.limit). Some (F o.feed_at_most q c)) (at_most_once _ _ b o.limit_at_least)

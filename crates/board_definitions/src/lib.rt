@@ -5,7 +5,6 @@
 //! - `pin`: a pin, and the answers to the request for one.
 //! - `law`: which findings may be filed.
 //! - `laws`: what holds of every legal history. Each function is empty: its clause is the law.
-//! - `plain_sheet`: the sheet of a match as a plain, slow program.
 //!
 //! The definitions stand in `specs`: `Entries` (what one entry does), `Sheets` (what stands, and the sheet at a version), `Pins` (due
 //! matches and live pins) and `Legal` (legal histories).

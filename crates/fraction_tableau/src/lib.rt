@@ -3,10 +3,11 @@
 //! pivot says where a number would pass 128 bits.
 //!
 //! - `Program`: coefficients and right sides; the objective is column 0.
-//! - `Tableau::build`: the first tableau, the one call that takes memory: a number a place of the tableau.
+//! - `Tableau::build`, and `rebuild` of an empty or used one: the first tableau. No other call takes memory: a number a place of
+//!   the tableau.
 //! - `Tableau::pivot`: one pivot, in a few scans of each other row that is not 0 in the column: one that tests, where the
-//!   bits of both rows and of their factors leave that open, one that writes, those that divide, and one that sees how
-//!   many bits it has now.
+//!   bits of both rows and of the two entries of the column leave that open, one that writes, and those that divide, which
+//!   fall away where the basic entry and the entry that leaves have no common divisor.
 //! - `Tableau::basic`, `value`, `multiplier`: what a basic solution and its multipliers are read from.
 #![tactic(auto)]
 
