@@ -1,6 +1,6 @@
 -- Each test refuses with at most one answer, and only if it is not passed.
-use Rattle.std.proofs.Common.{◌≡◌, ℕ, ℤ, pos, ◌*◌, ◌<◌, ◌≤◌, ◌≤ℤ◌, ◌<ℤ◌, ◌⊎◌, List, [], ◌∷◌, length, get_or, inl, inr, refl, sym, ap, ◌∙◌, subst, arith}
-use Rattle.std.specs.Prelude.{slice_get, slice_index, Some}
+use Rattle.std.proofs.Common.{◌≡◌, ℕ, ℤ, pos, ◌*◌, ◌<◌, ◌⊎◌, List, [], ◌∷◌, length, get_or, inl, inr, sym, ap, ◌∙◌, arith}
+use Rattle.std.specs.Prelude.{slice_get, Some}
 use Rattle.std.proofs.lemmas.Int.{ints}
 use Rattle.std.proofs.lemmas.Bool.{cases_lt}
 use Rattle.scan_types.specs.declared.offer.Offer.{Offer}
@@ -11,16 +11,15 @@ use Rattle.finding_definitions.specs.declared.finding.Finding.{Finding}
 use Rattle.finding_definitions.specs.declared.finding.Finding.TheVariants.{Arb, Coherent, Thin, Narrow, Wide, OutOfPivots}
 use Rattle.finding_definitions.specs.Fractions.{Fractions}
 use Rattle.finding_definitions.specs.Arbitrage.{total_net, total_gain}
-use Rattle.finding_definitions.specs.Measure.{mean, IsPriceMeasure}
-use Rattle.finding_definitions.specs.Verdicts.{reach}
+use Rattle.finding_definitions.specs.Measure.{mean}
 use Rattle.cert_checker.specs.declared.answer.Answer.{Answer}
 use Rattle.cert_checker.specs.declared.answer.Answer.TheVariants.{NoShape, NoOffer, NoAt}
 use Rattle.cert_checker.specs.declared.answer.Part.TheVariants.{Stakes, Measure}
 use Rattle.cert_checker.specs.Places.{AllHold, IsFirstFailure}
-use Rattle.cert_checker.specs.Shapes.{IsMiscount, HasShape, IsEntry, IsShapeFault, IsMeasureFault}
-use Rattle.cert_checker.specs.Losses.{Meets, IsLoss}
-use Rattle.cert_checker.specs.Gains.{GainsNothing, IsGain}
-use Rattle.cert_checker.specs.Answers.{IsYes, Tests, IsWithin, IsAnswer, RefusesCount, RefusesMeasure, RefusesLimit, RefusesOutcome, RefusesMean, RefusesBound, unit_need}
+use Rattle.cert_checker.specs.Shapes.{IsEntry, IsShapeFault, IsMeasureFault}
+use Rattle.cert_checker.specs.Losses.{Meets}
+use Rattle.cert_checker.specs.Gains.{GainsNothing}
+use Rattle.cert_checker.specs.Answers.{IsYes, Tests, IsWithin, IsAnswer, RefusesMeasure, RefusesLimit, RefusesOutcome, RefusesMean}
 use Rattle.cert_checker.proofs.Rightness.{no_measure_fault, no_shape_fault}
 
 -- the two answers of one test and of the later ones
