@@ -23,7 +23,7 @@ fn main(rt: HostRuntime) -> ExitCode {
         return ExitCode::from(WANT_OF_MEMORY);
     };
     let mut opener = FileOpener::new(&rt);
-    let mut sink = OutSink::new(&rt);
+    let mut sink = OutSink::new(io::writer(&rt));
     let end = desk(rt.alloc(), &words, &mut opener, &mut sink);
     ExitCode::from(end.status)
 }

@@ -1,11 +1,11 @@
 -- Openings under one name after another.
-use Rattle.std.proofs.Common.{◌≡◌, ◌+◌, ℕ, zero, suc, Bool, true, false, cond, List, [], ◌∷◌, ◌++◌, Option, Some, None, IfSome, drop, refl, sym, ◌∙◌, ap, subst, add-one, add-zero, zero-add}
+use Rattle.std.proofs.Common.{◌≡◌, ◌+◌, ℕ, zero, suc, Bool, true, false, cond, List, [], ◌∷◌, ◌++◌, Option, Some, None, IfSome, option_map, drop, refl, sym, ◌∙◌, ap, subst, add-one, add-zero, zero-add}
 use Rattle.std.specs.List.{slice_get}
 use Rattle.std.specs.Str.{bytes_eq}
 use Rattle.std.specs.Option.{option_and_then}
 use Rattle.std.proofs.lemmas.List.Sums.{sum_by-append}
 use Rattle.std.proofs.lemmas.Slice.Eq.{bytes_eq-Decides}
-use Rattle.desk_io.specs.Opener.{Told, OpensFirst, SameUnderOthers, times, next_under, OpenedUnder}
+use Rattle.desk_io.specs.Opener.{Told, OpensFirst, SameUnderOthers, times, next_under, OpenedUnder, TakenUnder}
 
 pub opened_under_none : (told : Told) → OpenedUnder [] told told
 opened_under_none told name = none (told name)
@@ -74,3 +74,15 @@ module _ (earlier : List (List ℕ)) (name : List ℕ) (first now after : Told) 
   -- the source that it gives
   pub opens_next : IfSome (first name) (λ _. left ≡ next_under earlier name first)
   opens_next = second_part (first name) (after name) left (times name earlier) here
+
+-- of a name of which nothing was told at first nothing is told later
+abbrev pub StaysUntold : Told → Told → Type 0
+StaysUntold first now = (name : List ℕ) → first name ≡ None → now name ≡ None
+
+-- openings that are exact under each name of which something is told, and leave the others untold, are exact
+pub taken_under : (names : List (List ℕ)) (first now : Told) → OpenedUnder names first now → StaysUntold first now → TakenUnder names first now
+taken_under names first now opened stays name = at (first name) refl (opened name)
+  where
+    at : (told : Option (List (List ℕ))) → first name ≡ told → IfSome told (λ sources. now name ≡ Some (drop (times name names) sources)) → now name ≡ option_map (λ sources. drop (times name names) sources) told
+    at None untold h = stays name untold
+    at (Some sources) told h = h

@@ -1,7 +1,8 @@
-pub mod Faults
-pub mod Source
-pub mod Sink
-pub mod Opener
+pub use Rattle.outside_definitions.specs.Faults
+pub use Rattle.outside_definitions.specs.Source
+pub use Rattle.outside_definitions.specs.Sink
+pub use Rattle.outside_definitions.specs.Opener
 pub mod MemSource
 pub mod MemSink
 pub mod MemOpener
+pub mod Edge

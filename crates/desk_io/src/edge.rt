@@ -1,10 +1,13 @@
-//! The real outside: files of std, and standard output. Nothing is told of their bytes.
+//! The real outside: files of std, and standard output.
+//!
+//! They tell as much of their bytes as std tells of its `Read` and `Write`: of a file and of standard
+//! output nothing, of a reader or a writer in memory all.
 ghost use Rattle.std.specs.Prelude.{◌≡◌, ◌≤◌, None, []};
-ghost use Rattle.std.proofs.Math.Nat.{le_refl, le_trans};
+ghost use Rattle.desk_io.specs.Edge.{ReadsFurther, reads_further_to_itself, reads_further_on};
 
 use crate::{OpenFault, Opener, ReadFailed, Sink, Source, WriteFailed};
 use std::fs;
-use std::io::{ErrorKind, Read};
+use std::io::{ErrorKind, Read, Write};
 use std::marker::Model;
 use std::rt::Files;
 
@@ -57,7 +60,7 @@ impl<R: Files> Opener for FileOpener<R> {
     }
 }
 
-/// A file that was opened.
+/// A file that was opened, or any other reader of std.
 #[derive(Drop)]
 pub struct FileSource<F> {
     file: F,
@@ -65,87 +68,91 @@ pub struct FileSource<F> {
 }
 
 impl<F> Model for FileSource<F> {
-    ghost use Rattle.std.specs.Prelude.{ℕ, ◌<◌, ◌^◌};
+    ghost use Rattle.std.specs.Prelude.{◌<◌, ◌^◌};
+    ghost use Rattle.desk_io.specs.Edge.{FileView};
 
-    ghost Value = { ℕ };
+    ghost Value = { FileView F };
 
-    ghost view = { λ source. source.faults };
+    ghost view = { λ source. record { file = source.file; faults = source.faults } };
 
     ghost invariant = { λ source. source.faults < 2 ^ 64 };
 }
 
 impl<F: Read> FileSource<F> {
     /// Nothing was read yet.
-    fn new(file: F) -> FileSource<F>
-        ensures { result ≡ 0 }
+    pub(crate) fn new(file: F) -> FileSource<F>
+        ensures { result ≡ record { file = file; faults = 0 } }
     {
         FileSource { file, faults: 0 }
     }
 }
 
 impl<F: Read> Source for FileSource<F> {
-    ghost faults = { λ source. source };
+    ghost faults = { λ source. source.faults };
 
-    ghost left = { λ _. None };
+    ghost left = { λ source. F.remaining source.file };
 
     ghost never_fails = { λ _. ⊥ };
 
-    ghost later = { λ before after. before ≤ after };
+    ghost later = { ReadsFurther F.remaining };
 
-    ghost later_reflexive = { le_refl };
+    ghost later_reflexive = { reads_further_to_itself F.remaining };
 
-    ghost later_transitive = { λ _ _ _ to_second to_third. le_trans to_second to_third };
+    ghost later_transitive = { reads_further_on F.remaining };
 
-    ghost later_gives = { λ _ _ _. ([], tt) };
+    ghost later_gives = { λ before after later. (later.given, later.consumed) };
 
-    ghost later_faults = { λ _ _ later. later };
+    ghost later_faults = { λ before after later. later.faults };
 
     ghost later_promise = { λ _ _ _ never. never };
 
     fn read(&mut self, buf: &mut [u8]) -> Result<usize, ReadFailed> {
-        let Ok(count) = self.file.read(buf) else {
-            self.faults = self.faults.saturating_add(1);
-            return Err(ReadFailed);
-        };
-        Ok(count)
+        match self.file.read(buf) {
+            Ok(count) => Ok(count),
+            Err(_) => {
+                self.faults = self.faults.saturating_add(1);
+                Err(ReadFailed)
+            }
+        }
     }
 }
 
-/// Standard output.
+/// Standard output, or any other writer of std.
 #[derive(Drop)]
-pub struct OutSink<P> {
-    out: P,
+pub struct OutSink<W> {
+    output: W,
     faults: u64,
 }
 
-impl<P> Model for OutSink<P> {
-    ghost use Rattle.std.specs.Prelude.{ℕ, ◌<◌, ◌^◌};
+impl<W> Model for OutSink<W> {
+    ghost use Rattle.std.specs.Prelude.{◌<◌, ◌^◌};
+    ghost use Rattle.desk_io.specs.Edge.{OutputView};
 
-    ghost Value = { ℕ };
+    ghost Value = { OutputView W };
 
-    ghost view = { λ sink. sink.faults };
+    ghost view = { λ sink. record { output = sink.output; faults = sink.faults } };
 
     ghost invariant = { λ sink. sink.faults < 2 ^ 64 };
 }
 
-impl<P: Print> OutSink<P> {
+impl<W: Write> OutSink<W> {
     /// Nothing was written yet.
-    pub fn new(out: P) -> OutSink<P>
-        ensures { result ≡ 0 }
+    pub fn new(output: W) -> OutSink<W>
+        ensures { result ≡ record { output = output; faults = 0 } }
     {
-        OutSink { out, faults: 0 }
+        OutSink { output, faults: 0 }
     }
 }
 
-impl<P: Print> Sink for OutSink<P> {
-    ghost faults = { λ sink. sink };
+impl<W: Write> Sink for OutSink<W> {
+    ghost faults = { λ sink. sink.faults };
 
-    ghost written = { λ _. None };
+    ghost written = { λ sink. W.contents sink.output };
 
     fn write(&mut self, buf: &[u8]) -> Result<usize, WriteFailed> {
-        match self.out.write_some(buf) {
+        match self.output.write(buf) {
             Ok(count) if count > 0 => Ok(count),
-            // Whoever waits for a write that takes nothing may wait for ever.
+            // A caller that repeats a write which takes nothing may never end.
             _ => {
                 self.faults = self.faults.saturating_add(1);
                 Err(WriteFailed)

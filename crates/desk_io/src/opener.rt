@@ -10,7 +10,8 @@ pub trait Opener {
     /// What it opens.
     type S: Source + Drop;
 
-    /// How many openings have failed. The count never falls, and stands still at `u64::MAX`.
+    /// How many openings have failed. The count rises with each opening that fails and with no other, and
+    /// stands still at `u64::MAX`.
     ghost faults: { Self → ℕ };
 
     /// The sources that are still to be opened under a name, in order, each as its bytes. `None` claims
@@ -33,6 +34,7 @@ pub trait Opener {
         ensures nothing_opened { OnErr result (SameUnderAll (told self.old) (told self.new)) }
         ensures unchanged { IsErrOf result OpenFault.WantOfMemory → self.new ≡ self.old }
         ensures failed { IsErrOf result OpenFault.Failed → Rose (faults self.old) (faults self.new) }
+        ensures no_fault { OnOk result (faults self.new ≡ faults self.old) }
         ensures faults_kept { faults self.old ≤ faults self.new }
         ensures faults_fit { faults self.new < 2 ^ 64 }
         ensures promised { promises self.old → IfOk result (λ source. Self.S.never_fails source) }

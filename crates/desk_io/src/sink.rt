@@ -1,5 +1,5 @@
 //! What a report is written to.
-ghost use Rattle.std.specs.Prelude.{◌<◌, ◌≤◌, ◌^◌, ℕ, List, Option, length, take, IfOk, OnErr};
+ghost use Rattle.std.specs.Prelude.{◌≡◌, ◌<◌, ◌≤◌, ◌^◌, ℕ, List, Option, length, take, IfOk, OnOk, OnErr};
 ghost use Rattle.std.specs.Io.KnownBytes.{Appends, Keeps};
 ghost use Rattle.desk_io.specs.Faults.{Rose};
 
@@ -7,7 +7,8 @@ use crate::WriteFailed;
 
 /// Takes bytes one after another.
 pub trait Sink {
-    /// How many writes have failed. The count never falls, and stands still at `u64::MAX`.
+    /// How many writes have failed. The count rises with each failed write and with no other, and stands
+    /// still at `u64::MAX`.
     ghost faults: { Self → ℕ };
 
     /// The bytes that were written, from the first on. `None` claims nothing.
@@ -23,6 +24,7 @@ pub trait Sink {
             Appends (written self.old) (written self.new) (take n buf.now)) }
         ensures nothing_appended { OnErr result (Keeps (written self.old) (written self.new)) }
         ensures failed { OnErr result (Rose (faults self.old) (faults self.new)) }
+        ensures no_fault { OnOk result (faults self.new ≡ faults self.old) }
         ensures faults_kept { faults self.old ≤ faults self.new }
         ensures faults_fit { faults self.new < 2 ^ 64 };
 }

@@ -1,5 +1,5 @@
 //! What a feed is read from.
-ghost use Rattle.std.specs.Prelude.{◌≡◌, ◌<◌, ◌≤◌, ◌^◌, ℕ, List, Option, length, take, IfOk, IsOk, OnErr};
+ghost use Rattle.std.specs.Prelude.{◌≡◌, ◌<◌, ◌≤◌, ◌^◌, ℕ, List, Option, length, take, IfOk, IsOk, OnOk, OnErr};
 ghost use Rattle.std.specs.Io.KnownBytes.{Consumes, Keeps, IsAtEnd};
 ghost use Rattle.desk_io.specs.Faults.{Rose};
 ghost use Rattle.desk_io.specs.Source.{GivesUpTo};
@@ -8,7 +8,8 @@ use crate::ReadFailed;
 
 /// Bytes that are read from front to back.
 pub trait Source {
-    /// How many reads have failed. The count never falls, and stands still at `u64::MAX`.
+    /// How many reads have failed. The count rises with each failed read and with no other, and stands
+    /// still at `u64::MAX`.
     ghost faults: { Self → ℕ };
 
     /// The bytes that are left to read. `None` claims nothing.
@@ -30,6 +31,7 @@ pub trait Source {
         ensures end { IfOk result (λ n. n ≡ 0 → IsAtEnd (left self.new)) }
         ensures nothing_taken { OnErr result (Keeps (left self.old) (left self.new)) }
         ensures failed { OnErr result (Rose (faults self.old) (faults self.new)) }
+        ensures no_fault { OnOk result (faults self.new ≡ faults self.old) }
         ensures faults_kept { faults self.old ≤ faults self.new }
         ensures faults_fit { faults self.new < 2 ^ 64 }
         ensures is_later { later self.old self.new }

@@ -1,10 +1,12 @@
 //! Reads, writes and openings by their numbers, and the real outside. Expected values are counted by hand.
-ghost use Rattle.std.specs.Prelude.{◌≡◌, ◌<◌, ◌≤◌, length, IfSome};
+ghost use Rattle.std.specs.Prelude.{◌≡◌, ◌<◌, ◌≤◌, length, IfOk, IfSome};
 
 use super::*;
-use std::alloc::{AllocError, Global};
+use std::alloc::{AllocError, Allocator, Global};
+use std::fs::{File, Metadata, OpenOptions};
+use std::rt::Files;
 use std::test::Fail;
-use std::{env, fs, process};
+use std::{env, fs, io, process};
 
 fn read_through<S: Source>(source: &mut S, buf: &mut [u8]) -> Option<usize>
     requires { 0 < length buf.old }
@@ -137,6 +139,120 @@ fn a_file_is_read_to_its_end(rt: HostRuntime) -> Result<(), Fail> {
 
 #[test]
 fn standard_output_takes_all(rt: HostRuntime) {
-    let mut out = OutSink::new(&rt);
+    let mut out = OutSink::new(io::writer(&rt));
     assert_eq!(rt; put_all(&mut out, b"to standard output\n"), Ok(()));
+}
+
+/// A reader and a writer whose first call fails, and whose next one takes or gives one byte.
+#[derive(Drop)]
+struct FailsOnce {
+    failed: bool,
+}
+
+impl FailsOnce {
+    fn next(&mut self, most: usize) -> io::Result<usize>
+        ensures { IfOk result (λ n. n ≤ most) }
+    {
+        if self.failed {
+            return Ok(most.min(1));
+        }
+        self.failed = true;
+        Err(io::Error::from(io::ErrorKind::Other))
+    }
+}
+
+impl io::Read for FailsOnce {
+    fn read(&mut self, buf: &mut [u8]) -> io::Result<usize> {
+        self.next(buf.len())
+    }
+}
+
+impl io::Write for FailsOnce {
+    fn write(&mut self, buf: &[u8]) -> io::Result<usize> {
+        self.next(buf.len())
+    }
+
+    fn flush(&mut self) -> io::Result<()> {
+        Ok(())
+    }
+}
+
+// A body that tries again without counting the fault meets the clauses: the reader is not asked what failed.
+#[test]
+fn what_fails_at_the_edge_is_not_tried_again(rt: HostRuntime) {
+    let mut source = FileSource::new(FailsOnce { failed: false });
+    assert_eq!(rt; read_through(&mut source, &mut [0u8; 8]), None);
+    assert_eq!(rt; read_through(&mut source, &mut [0u8; 8]), Some(1));
+    let mut sink = OutSink::new(FailsOnce { failed: false });
+    assert_eq!(rt; put_all(&mut sink, b"a"), Err(WriteFailed));
+    assert_eq!(rt; put_all(&mut sink, b"a"), Ok(()));
+}
+
+/// Files of which each call fails for this reason.
+#[derive(Drop)]
+struct Refusing {
+    reason: io::ErrorKind,
+}
+
+impl Refusing {
+    fn refuse<T>(&self) -> io::Result<T> {
+        Err(io::Error::from(self.reason))
+    }
+}
+
+impl Files for Refusing {
+    type File = File;
+    type Dir = File;
+
+    fn open_file(&self, _how: &OpenOptions, _path: &str) -> io::Result<File> {
+        self.refuse()
+    }
+
+    fn open_dir(&self, _path: &str) -> io::Result<File> {
+        self.refuse()
+    }
+
+    fn metadata(&self, _path: &str) -> io::Result<Metadata> {
+        self.refuse()
+    }
+
+    fn symlink_metadata(&self, _path: &str) -> io::Result<Metadata> {
+        self.refuse()
+    }
+
+    fn copy(&self, _from: &str, _to: &str) -> io::Result<u64> {
+        self.refuse()
+    }
+
+    fn rename(&self, _from: &str, _to: &str) -> io::Result<()> {
+        self.refuse()
+    }
+
+    fn remove_file(&self, _path: &str) -> io::Result<()> {
+        self.refuse()
+    }
+
+    fn create_dir(&self, _path: &str) -> io::Result<()> {
+        self.refuse()
+    }
+
+    fn remove_dir(&self, _path: &str) -> io::Result<()> {
+        self.refuse()
+    }
+
+    fn remove_dir_all<B: Allocator>(&self, _alloc: B, _path: &str) -> io::Result<()> {
+        self.refuse()
+    }
+}
+
+#[test]
+fn want_of_memory_at_an_opening_is_no_other_fault(rt: HostRuntime) {
+    for (reason, want) in [
+        (io::ErrorKind::OutOfMemory, OpenFault::WantOfMemory),
+        (io::ErrorKind::NotFound, OpenFault::Failed),
+        (io::ErrorKind::PermissionDenied, OpenFault::Failed),
+    ] {
+        let mut opener = FileOpener::new(Refusing { reason });
+        assert!(rt; matches!(open_through(&mut opener, "alpha.feed"), Err(fault) if fault == want));
+    }
 }

@@ -1,4 +1,4 @@
-use Rattle.std.proofs.Common.{arith, subst}
+use Rattle.std.proofs.Common.{◌∙◌, subst}
 use Rattle.std.proofs.KnownBytes.{Appends-trans}
 use Rattle.std.specs.Io.KnownBytes.{Appends}
 use Rattle.desk_io.proofs.Rests.{after_within, after_is_rest, done_grows, after_shorter}
@@ -19,6 +19,6 @@ loop-rest-preserved g c =
       appended = subst (Appends (K.written c.args.sink.now) (K.written c.write.new.self))
           (done_grows bytes rest count before.rest wrote.bound before.within)
           (Appends-trans _ _ _ _ _ before.appended wrote.appended);
-      faults = omega (arith, before.faults, wrote.faults_kept);
+      faults = wrote.no_fault ∙ before.faults;
       untouched = λ whole. absurd (after_shorter bytes rest count before.rest wrote.bound before.within wrote.some whole);
     }

@@ -11,7 +11,7 @@ invariant-loop-rest g l =
       within : length l.rest ≤ length l.bytes;
       rest : l.rest ≡ drop done l.bytes;
       appended : Appends (K.written l.fn.sink) (K.written l.sink) (take done l.bytes);
-      faults : K.faults l.fn.sink ≤ K.faults l.sink;
+      faults : K.faults l.sink ≡ K.faults l.fn.sink;
       untouched : length l.rest ≡ length l.bytes → l.sink ≡ l.fn.sink;
     }
 

@@ -1,5 +1,5 @@
 -- The sources that an opener has still to open, as the bytes of each, in order, by name.
-use Rattle.std.specs.Prelude.{◌≡◌, ◌≢◌, List, [], ◌∷◌, ℕ, Option, Some, None, IfSome, drop, count_by}
+use Rattle.std.specs.Prelude.{◌≡◌, ◌≢◌, List, [], ◌∷◌, ℕ, Option, Some, None, IfSome, drop, count_by, option_map}
 use Rattle.std.specs.List.{slice_get}
 use Rattle.std.specs.Option.{option_and_then}
 use Rattle.std.specs.Str.{bytes_eq}
@@ -34,3 +34,8 @@ next_under earlier name told = option_and_then (λ sources. slice_get sources (t
 -- openings under the names lead from what was told to what is told now: from each name's list as many are gone as the name stands among them
 abbrev pub OpenedUnder : List (List ℕ) → Told → Told → Type 0
 OpenedUnder names old new = (name : List ℕ) → IfSome (old name) (λ sources. new name ≡ Some (drop (times name names) sources))
+
+-- exactly these openings were made: from each name's list as many sources are gone as the name stands among them, and of a name of
+-- which nothing was told nothing is told now
+abbrev pub TakenUnder : List (List ℕ) → Told → Told → Type 0
+TakenUnder names old new = (name : List ℕ) → new name ≡ option_map (λ sources. drop (times name names) sources) (old name)
