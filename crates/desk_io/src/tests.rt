@@ -202,6 +202,7 @@ impl Refusing {
 
 impl Files for Refusing {
     type File = File;
+
     type Dir = File;
 
     fn open_file(&self, _how: &OpenOptions, _path: &str) -> io::Result<File> {
