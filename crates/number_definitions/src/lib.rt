@@ -2,6 +2,4 @@
 //!
 //! The definitions stand in `specs`: `Readings` (which texts have the form, and what they write), `Values` (the values of each range)
 //! and `Spellings` (the one text of each value).
-//!
-//! - `laws`: what is put reads back.
 #![tactic(auto)]
