@@ -1,1 +1,3 @@
 mod Worked
+pub mod Pieces
+pub mod Walk

@@ -3,3 +3,4 @@ pub mod Fields
 pub mod Forms
 pub mod Standing
 pub mod Feed
+pub mod Answers
