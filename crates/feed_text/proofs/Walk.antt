@@ -1,6 +1,6 @@
 -- The steps of lines one after another.
-use Rattle.std.proofs.Common.{◌≡◌, ℕ, zero, suc, ◌+◌, ◌<◌, ◌≤◌, Bool, true, false, List, [], ◌∷◌, ◌++◌, length, take, drop, slice_get, refl, sym, ap, ◌∙◌, arith, append-nil, append_assoc}
-use Rattle.std.specs.Prelude.{Option, Some, None, Result, Ok, Err}
+use Rattle.std.proofs.Common.{◌≡◌, ℕ, zero, suc, ◌+◌, ◌<◌, ◌≤◌, true, false, List, [], ◌∷◌, ◌++◌, length, take, drop, slice_get, refl, sym, ap, ◌∙◌, arith, append-nil, append_assoc}
+use Rattle.std.specs.Prelude.{Option, Some, None, Ok, Err}
 use Rattle.std.specs.List.{cons_option}
 use Rattle.std.proofs.lemmas.List.{take-append-drop, length-take-le}
 use Rattle.feed_text.specs.declared.accepted.Accepted.{Accepted}
@@ -96,8 +96,8 @@ feed_item e (first ∷ lines) zero line h open_ =
     ∙ ap (λ o. Some (header_step (header_of (elim o [ None ↦ first | Some l ↦ l ])))) h
 feed_item e (first ∷ lines) (suc k) line h open_ =
     (elim (header_of first) as (λ o. is_open (take (suc k) (elim o [ Err fault ↦ step.BadHeader (refusal 1 fault) ∷ [] | Ok header ↦ step.Header header ∷ line_steps e [] 2 lines ])) ≡ true →
-      slice_get (elim o [ Err fault ↦ step.BadHeader (refusal 1 fault) ∷ [] | Ok header ↦ step.Header header ∷ line_steps e [] 2 lines ]) (suc k)
-      ≡ Some (next_answer (take (suc k) (elim o [ Err fault ↦ step.BadHeader (refusal 1 fault) ∷ [] | Ok header ↦ step.Header header ∷ line_steps e [] 2 lines ])) line)) [
+    slice_get (elim o [ Err fault ↦ step.BadHeader (refusal 1 fault) ∷ [] | Ok header ↦ step.Header header ∷ line_steps e [] 2 lines ]) (suc k)
+    ≡ Some (next_answer (take (suc k) (elim o [ Err fault ↦ step.BadHeader (refusal 1 fault) ∷ [] | Ok header ↦ step.Header header ∷ line_steps e [] 2 lines ])) line)) [
       | Err fault ↦ λ shut. absurd (false_is_not_true shut)
       | Ok header ↦ λ _. line_item e [] 2 lines k line h ∙ ap (λ m. Some (line_answer (accepted_in (take k (line_steps e [] 2 lines))) m line)) (omega (arith, length-take-le k (line_steps e [] 2 lines) (omega (arith, within lines k line h, line_steps_more e [] 2 lines))))
     ]) open_
@@ -119,8 +119,8 @@ unfolding feed_steps
 feed_steps_end e [] open_ = refl
 feed_steps_end e (first ∷ lines) open_ =
     (elim (header_of first) as (λ o. is_open (take (suc (length lines)) (elim o [ Err fault ↦ step.BadHeader (refusal 1 fault) ∷ [] | Ok header ↦ step.Header header ∷ line_steps e [] 2 lines ])) ≡ true →
-      (elim o [ Err fault ↦ step.BadHeader (refusal 1 fault) ∷ [] | Ok header ↦ step.Header header ∷ line_steps e [] 2 lines ])
-      ≡ take (suc (length lines)) (elim o [ Err fault ↦ step.BadHeader (refusal 1 fault) ∷ [] | Ok header ↦ step.Header header ∷ line_steps e [] 2 lines ]) ++ e ∷ []) [
+    (elim o [ Err fault ↦ step.BadHeader (refusal 1 fault) ∷ [] | Ok header ↦ step.Header header ∷ line_steps e [] 2 lines ])
+    ≡ take (suc (length lines)) (elim o [ Err fault ↦ step.BadHeader (refusal 1 fault) ∷ [] | Ok header ↦ step.Header header ∷ line_steps e [] 2 lines ]) ++ e ∷ []) [
       | Err fault ↦ λ shut. absurd (false_is_not_true shut)
       | Ok header ↦ λ _. ap (λ l. step.Header header ∷ l) (line_steps_end e [] 2 lines)
     ]) open_
@@ -134,10 +134,10 @@ pub feed_steps_shut : (e f : Step) (line : List ℕ) (lines others : List (List 
 unfolding feed_steps
 feed_steps_shut e f line lines others shut =
     (elim (header_of line) as (λ o. is_open (take 1 (elim o [ Err fault ↦ step.BadHeader (refusal 1 fault) ∷ [] | Ok header ↦ step.Header header ∷ line_steps e [] 2 lines ])) ≡ false →
-      ((elim o [ Err fault ↦ step.BadHeader (refusal 1 fault) ∷ [] | Ok header ↦ step.Header header ∷ line_steps e [] 2 lines ])
-      ≡ take 1 (elim o [ Err fault ↦ step.BadHeader (refusal 1 fault) ∷ [] | Ok header ↦ step.Header header ∷ line_steps e [] 2 lines ]))
-      × ((elim o [ Err fault ↦ step.BadHeader (refusal 1 fault) ∷ [] | Ok header ↦ step.Header header ∷ line_steps f [] 2 others ])
-      ≡ (elim o [ Err fault ↦ step.BadHeader (refusal 1 fault) ∷ [] | Ok header ↦ step.Header header ∷ line_steps e [] 2 lines ]))) [
+    ((elim o [ Err fault ↦ step.BadHeader (refusal 1 fault) ∷ [] | Ok header ↦ step.Header header ∷ line_steps e [] 2 lines ])
+    ≡ take 1 (elim o [ Err fault ↦ step.BadHeader (refusal 1 fault) ∷ [] | Ok header ↦ step.Header header ∷ line_steps e [] 2 lines ]))
+    × ((elim o [ Err fault ↦ step.BadHeader (refusal 1 fault) ∷ [] | Ok header ↦ step.Header header ∷ line_steps f [] 2 others ])
+    ≡ (elim o [ Err fault ↦ step.BadHeader (refusal 1 fault) ∷ [] | Ok header ↦ step.Header header ∷ line_steps e [] 2 lines ]))) [
       | Err fault ↦ λ _. (refl, refl)
       | Ok header ↦ λ opened. absurd (true_is_not_false opened)
     ]) shut

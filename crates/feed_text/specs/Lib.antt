@@ -4,3 +4,4 @@ pub mod Forms
 pub mod Standing
 pub mod Feed
 pub mod Answers
+pub mod Laws
