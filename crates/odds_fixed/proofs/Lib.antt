@@ -2,3 +2,5 @@ pub mod Splits
 pub mod Numbers
 pub mod GoalParts
 pub mod Made
+pub mod Numerals
+pub mod OddsSpelling

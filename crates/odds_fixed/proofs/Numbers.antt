@@ -35,7 +35,7 @@ number_not_digits most text h =
     sym (ap (λ b. cond ((leb 1 (length text) && leb (length text) most) && b) (Some (digits_value 10 text)) None) h
     ∙ ap (λ b. cond b (Some (digits_value 10 text)) None) (and_false (leb 1 (length text) && leb (length text) most)))
 
-digits_by_value : IsNumeralModel (λ ds. all_ascii_digits ds ≡ true) (digits_value 10)
+pub digits_by_value : IsNumeralModel (λ ds. all_ascii_digits ds ≡ true) (digits_value 10)
 digits_by_value = numerals_by_value (λ ds. all_ascii_digits ds ≡ true) tells_all_ascii_digits
 
 -- so many digits write a number below that power of ten
