@@ -4,3 +4,5 @@ pub mod GoalParts
 pub mod Made
 pub mod Numerals
 pub mod OddsSpelling
+pub mod LineSpelling
+pub mod NumberSpelling
