@@ -1,14 +1,13 @@
 -- Lines have one spelling.
-use Rattle.std.proofs.Common.{◌≡◌, ℕ, zero, suc, ◌+◌, ◌-◌, ◌*◌, ◌/◌, ◌%◌, ◌^◌, ◌<◌, ◌≤◌, Bool, true, false, cond, ◌||◌, ◌⊎◌, inl, inr, List, [], ◌∷◌, ◌++◌, length, get_or, Option, Some, None, option_map, option_and_then, refl, sym, ap, ◌∙◌, subst, arith, decimal}
+use Rattle.std.proofs.Common.{◌≡◌, ℕ, zero, suc, ◌+◌, ◌*◌, ◌/◌, ◌%◌, ◌<◌, Bool, true, false, cond, inl, inr, List, [], ◌∷◌, ◌++◌, length, Option, Some, None, option_map, option_and_then, refl, sym, ap, ◌∙◌, subst, arith, decimal}
 use Rattle.std.specs.Prelude.{ℤ, pos, negsuc, neg_ℤ, ◌≤ℤ◌, codes}
 use Rattle.std.proofs.lemmas.Fmt.{decimal_digit}
 use Rattle.std.proofs.lemmas.Int.{ints}
 use Rattle.std.proofs.lemmas.Slice.Eq.{bytes_eq-Decides}
-use Rattle.std.proofs.Math.ListN.{get_or-append}
 use Rattle.std.specs.Str.{all_ascii_digits, bytes_eq}
 use Rattle.scan_types.specs.declared.line.HandicapLine.{HandicapLine}
 use Rattle.scan_types.specs.declared.line.TotalLine.{TotalLine}
-use Rattle.number_definitions.specs.Printed.{IsDigits, IsNumeralText, IsPrintedDecimal, IsPrintedTotal, IsPrintedBelow, IsPrintedHandicap}
+use Rattle.number_definitions.specs.Printed.{IsDigits, IsNumeralText, IsPrintedTotal, IsPrintedHandicap}
 use Rattle.number_definitions.specs.Readings.{number_of, fraction_of, quarters_of, plain_quarters_of, quarters_of_parts}
 use Rattle.number_definitions.specs.Spellings.{last_digit, quarters_text, handicap_text}
 use Rattle.odds_fixed.specs.Laws.{IsTheOneSpelling}

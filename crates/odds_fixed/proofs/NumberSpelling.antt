@@ -1,10 +1,10 @@
 -- Whole numbers have one spelling.
-use Rattle.std.proofs.Common.{◌≡◌, ℕ, zero, suc, ◌+◌, ◌^◌, ◌<◌, ◌≤◌, Bool, true, false, cond, eqb, ◌⊎◌, inl, inr, List, [], ◌∷◌, length, drop, get_or, refl, sym, ap, ◌∙◌, subst, arith, decimal}
+use Rattle.std.proofs.Common.{◌≡◌, ℕ, zero, suc, ◌+◌, ◌^◌, ◌<◌, ◌≤◌, false, eqb, inl, inr, List, [], ◌∷◌, refl, sym, ap, ◌∙◌, subst, arith, decimal}
 use Rattle.std.specs.Prelude.{ℤ, pos, negsuc, neg_ℤ, nat_abs, codes}
 use Rattle.std.proofs.lemmas.Bool.{ne_eqb}
 use Rattle.std.proofs.lemmas.Fmt.{decimal_digit}
-use Rattle.std.specs.Str.Parse.{digits_value, signed_digits_value, starts_with_minus, without_leading_sign, without_leading_plus}
-use Rattle.number_definitions.specs.Printed.{IsNumeralText, IsPrintedBelow, IsPrintedNumber}
+use Rattle.std.specs.Str.Parse.{digits_value, signed_digits_value}
+use Rattle.number_definitions.specs.Printed.{IsNumeralText, IsPrintedNumber}
 use Rattle.number_definitions.specs.Spellings.{number_text}
 use Rattle.odds_fixed.specs.Laws.{IsTheOneSpelling}
 use Rattle.odds_fixed.proofs.Numbers.{digits_by_value}

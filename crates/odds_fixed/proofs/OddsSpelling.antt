@@ -1,21 +1,18 @@
 -- Odds have one spelling.
-use Rattle.std.proofs.Common.{◌≡◌, ℕ, ◌+◌, ◌-◌, ◌*◌, ◌/◌, ◌%◌, ◌^◌, ◌<◌, ◌≤◌, Bool, true, false, cond, ◌&&◌, List, [], ◌∷◌, ◌++◌, length, Option, Some, None, Result, Ok, Err, option_and_then, refl, sym, ap, ◌∙◌, subst, arith, decimal}
+use Rattle.std.proofs.Common.{◌≡◌, ℕ, ◌+◌, ◌-◌, ◌*◌, ◌/◌, ◌%◌, ◌^◌, ◌<◌, Bool, true, false, List, [], ◌∷◌, ◌++◌, length, Option, Some, None, Ok, option_and_then, refl, sym, ap, ◌∙◌, arith, decimal}
 use Rattle.std.specs.Str.{all_ascii_digits}
-use Rattle.std.specs.Char.{digit_value, is_ascii_digit}
 use Rattle.std.specs.Str.Parse.{digits_value}
-use Rattle.std.specs.List.{slice_split}
 use Rattle.scan_types.specs.declared.odds.Odds.{Odds}
-use Rattle.number_definitions.specs.Printed.{IsDigits, IsNumeralText, IsPrintedDecimal, IsPrintedOdds}
-use Rattle.number_definitions.specs.Readings.{number_of, thousandths_of, thousandths_of_parts, is_point}
+use Rattle.number_definitions.specs.Printed.{IsDigits, IsPrintedOdds}
+use Rattle.number_definitions.specs.Readings.{number_of, thousandths_of, thousandths_of_parts}
 use Rattle.number_definitions.specs.Spellings.{last_digit, odds_text}
 use Rattle.number_definitions.specs.Values.{odds_with, odds_if, is_within, in_range, or_cause}
 use Rattle.number_definitions.proofs.Made.{odds_with_odds}
-use Rattle.odds_fixed.specs.declared.faults.OddsFault.{OddsFault}
 use Rattle.odds_fixed.specs.declared.faults.OddsFault.TheVariants.{BadOdds, OddsRange}
 use Rattle.odds_fixed.specs.Faults.{odds_or_fault}
 use Rattle.odds_fixed.specs.Laws.{IsTheOneSpelling}
 use Rattle.odds_fixed.proofs.Numbers.{digits_by_value}
-use Rattle.odds_fixed.proofs.Numerals.{numeral_text, value_of_decimal, decimal_of_value, number_of_digits, number_of_value, number_of_decimal, split_decimal, digit_is, digit_value_is, DigitByte, digit_byte}
+use Rattle.odds_fixed.proofs.Numerals.{numeral_text, decimal_of_value, number_of_digits, number_of_value, number_of_decimal, split_decimal, digit_is, digit_value_is, digit_byte}
 
 abbrev joined : Option ℕ → Option ℕ → ℕ → Option ℕ
 joined whole fraction count = option_and_then (λ units. option_and_then (λ parts. Some (1000 * units + parts * 10 ^ (3 - count))) fraction) whole

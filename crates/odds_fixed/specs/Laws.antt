@@ -1,5 +1,5 @@
 -- Each value has one spelling: it has the printed form, it reads as the value, and no other text does both.
-use Rattle.std.specs.Prelude.{ℕ, ◌≡◌, ◌≤◌, ◌^◌, ℤ, pos, List, Option, Some, Result, Ok, nat_abs}
+use Rattle.std.specs.Prelude.{ℕ, ◌≡◌, ◌≤◌, ◌^◌, ℤ, pos, List, Some, Ok, nat_abs}
 use Rattle.std.specs.Str.Parse.{signed_digits_value}
 use Rattle.scan_types.specs.declared.odds.Odds.{Odds}
 use Rattle.scan_types.specs.declared.line.HandicapLine.{HandicapLine}

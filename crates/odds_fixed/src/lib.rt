@@ -19,9 +19,15 @@ mod spellings;
 mod text_buf;
 
 pub use faults::{LimitFault, OddsFault};
-pub use laws::{handicaps_have_one_spelling, numbers_have_one_spelling, odds_have_one_spelling, totals_have_one_spelling};
+pub use laws::{
+    handicaps_have_one_spelling, numbers_have_one_spelling, odds_have_one_spelling,
+    totals_have_one_spelling,
+};
 pub use limit::read_limit;
 pub use odds::read_odds;
 pub use quarters::read_quarters;
 pub use spellings::{NUMBER_BYTES, put_handicap, put_number, put_odds, put_total};
 pub use text_buf::{TEXT_BYTES, TextBuf};
+
+#[cfg(test)]
+mod tests;

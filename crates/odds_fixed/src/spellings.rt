@@ -21,7 +21,8 @@ fn digit(number: u32) -> u8
 // Appends quarters of a goal, with exactly two decimals.
 fn put_quarters(out: &mut TextBuf, quarters: u8)
     requires { length out.old + 20 ≤ TEXT_BYTES }
-    ensures { out.new ≡ out.old ++ quarters_text quarters }
+    ensures spelled { out.new ≡ out.old ++ quarters_text quarters }
+    ensures short { length out.new ≤ length out.old + 20 }
 {
     let hundredths = 25 * u32::from(quarters % 4);
     let mut buffer = Buffer::new();
@@ -32,7 +33,8 @@ fn put_quarters(out: &mut TextBuf, quarters: u8)
 /// Appends odds: no leading zero, and exactly three decimals.
 pub fn put_odds(out: &mut TextBuf, odds: Odds)
     requires { HasRoom out.old }
-    ensures { out.new ≡ out.old ++ odds_text odds.thousandths }
+    ensures spelled { out.new ≡ out.old ++ odds_text odds.thousandths }
+    ensures short { length out.new ≤ length out.old + NUMBER_BYTES }
 {
     let n = odds.thousandths;
     let mut buffer = Buffer::new();
@@ -43,7 +45,8 @@ pub fn put_odds(out: &mut TextBuf, odds: Odds)
 /// Appends a handicap line: exactly two decimals, and a minus sign only below zero.
 pub fn put_handicap(out: &mut TextBuf, line: HandicapLine)
     requires { HasRoom out.old }
-    ensures { out.new ≡ out.old ++ handicap_text line.quarters }
+    ensures spelled { out.new ≡ out.old ++ handicap_text line.quarters }
+    ensures short { length out.new ≤ length out.old + NUMBER_BYTES }
 {
     if line.quarters < 0 {
         out.push_bytes(b"-");
@@ -54,7 +57,8 @@ pub fn put_handicap(out: &mut TextBuf, line: HandicapLine)
 /// Appends a total line: exactly two decimals.
 pub fn put_total(out: &mut TextBuf, line: TotalLine)
     requires { HasRoom out.old }
-    ensures { out.new ≡ out.old ++ quarters_text line.quarters }
+    ensures spelled { out.new ≡ out.old ++ quarters_text line.quarters }
+    ensures short { length out.new ≤ length out.old + NUMBER_BYTES }
 {
     put_quarters(out, line.quarters);
 }
@@ -62,7 +66,8 @@ pub fn put_total(out: &mut TextBuf, line: TotalLine)
 /// Appends a whole number in decimal digits: no leading zero, and a minus sign only below zero.
 pub fn put_number(out: &mut TextBuf, n: i128)
     requires { HasRoom out.old }
-    ensures { out.new ≡ out.old ++ number_text n }
+    ensures spelled { out.new ≡ out.old ++ number_text n }
+    ensures short { length out.new ≤ length out.old + NUMBER_BYTES }
 {
     let mut buffer = Buffer::new();
     out.push_bytes(buffer.format(n).as_bytes());
