@@ -1,5 +1,5 @@
 -- Reads one after another, and what they leave of the lines.
-use Rattle.std.proofs.Common.{◌≡◌, ℕ, ◌+◌, ◌-◌, ◌<◌, ◌≤◌, ◌⊎◌, List, [], ◌∷◌, ◌++◌, length, take, drop, Option, refl, sym, ap, ◌∙◌, subst, arith, inl, inr, append-nil, append_assoc, length-append, length-drop}
+use Rattle.std.proofs.Common.{◌≡◌, ℕ, ◌+◌, ◌-◌, ◌<◌, ◌≤◌, ◌⊎◌, List, [], ◌∷◌, ◌++◌, length, take, drop, min, Option, Some, None, refl, sym, ap, ◌∙◌, subst, arith, inl, inr, append-nil, append_assoc, length-append, length-drop, length-take}
 use Rattle.std.proofs.Math.Seq.{take-append_seam, take-append-add}
 use Rattle.std.proofs.lemmas.List.{drop-append-le, take_all}
 use Rattle.std.proofs.KnownBytes.{Consumes-trans}
@@ -15,6 +15,11 @@ takes_on a b c x y z first second = record {
   given = Consumes-trans a b c first.more second.more first.given second.given;
 }
 
+-- no read
+pub takes_nothing : (a : Option (List ℕ)) (x : List ℕ) → Takes a a x x
+takes_nothing None x = record { more = []; appended = sym (append-nil x); given = tt }
+takes_nothing (Some left) x = record { more = []; appended = sym (append-nil x); given = refl }
+
 none_more : (more : List ℕ) → length more ≡ 0 → more ≡ []
 none_more [] h = refl
 none_more (x ∷ more) h = absurd (omega (arith, h))
@@ -28,11 +33,28 @@ nothing_more a b old new t same =
 
 -- bytes that are all looked at
 pub all_looked_at : (bytes : List ℕ) → length bytes ≤ MOST_FEED_BYTES → looked_at bytes ≡ bytes
+unfolding looked_at
 all_looked_at bytes h = take_all MOST_FEED_BYTES bytes h
 
 take_beyond : (text more : List ℕ) (n : ℕ) → length text ≤ n → take n (text ++ more) ≡ text ++ take (n - length text) more
 take_beyond text more n h =
     ap (λ m. take m (text ++ more)) {x = n} {y = length text + (n - length text)} (omega arith) ∙ take-append-add text more (n - length text)
+
+pub length-looked_at : (bytes : List ℕ) → length (looked_at bytes) ≡ min MOST_FEED_BYTES (length bytes)
+unfolding looked_at
+length-looked_at bytes = length-take MOST_FEED_BYTES bytes
+
+pub looked_at_beyond : (old more : List ℕ) → length old ≤ MOST_FEED_BYTES → looked_at (old ++ more) ≡ old ++ take (MOST_FEED_BYTES - length old) more
+unfolding looked_at
+looked_at_beyond old more few = take_beyond old more MOST_FEED_BYTES few
+
+-- a search that found no line feed, on bytes that are the same
+pub found_none : (now old : List ℕ) (start_now start : ℕ) → now ≡ old → start_now ≡ start → IsOneLine (drop start (looked_at old)) → length old ≤ MOST_FEED_BYTES →
+    IsOneLine (drop start_now (looked_at now)) × (length now ≤ MOST_FEED_BYTES)
+found_none now old start_now start same at one few = (
+  subst (λ s. IsOneLine (drop s (looked_at now))) (sym at) (subst (λ b. IsOneLine (drop start (looked_at b))) (sym same) one),
+  subst (λ b. length b ≤ MOST_FEED_BYTES) (sym same) few,
+)
 
 -- what was looked through stays so
 pub looked_through : (a b : Option (List ℕ)) (old new : List ℕ) (start from start_now : ℕ) → Takes a b old new → start ≤ length old → length old ≤ MOST_FEED_BYTES → from ≡ length old → start_now ≡ start →
@@ -44,7 +66,7 @@ looked_through a b old new start from start_now t within few at same one = subst
         ap (λ s. take (from - s) (drop s (looked_at new))) same
         ∙ ap (λ f. take (f - start) (drop start (looked_at new))) at
         ∙ ap (λ l. take (length old - start) (drop start (looked_at l))) t.appended
-        ∙ ap (λ l. take (length old - start) (drop start l)) (take_beyond old t.more MOST_FEED_BYTES few)
+        ∙ ap (λ l. take (length old - start) (drop start l)) (looked_at_beyond old t.more few)
         ∙ ap (λ l. take (length old - start) l) (drop-append-le start old (take (MOST_FEED_BYTES - length old) t.more) within)
         ∙ ap (λ n. take n (drop start old ++ take (MOST_FEED_BYTES - length old) t.more)) (sym (length-drop start old))
         ∙ take-append_seam (drop start old) (take (MOST_FEED_BYTES - length old) t.more)

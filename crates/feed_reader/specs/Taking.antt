@@ -21,7 +21,7 @@ pub record GoesOn (left_old left_new : Option (List ℕ)) (old new : List ℕ) (
   pub promise_kept : Promise
 
 -- the bytes that are looked at
-abbrev pub looked_at : List ℕ → List ℕ
+unfoldable pub looked_at : List ℕ → List ℕ
 looked_at bytes = take MOST_FEED_BYTES bytes
 
 -- no line feed stands in the text

@@ -1,8 +1,9 @@
-use Rattle.std.proofs.Common.{◌≡◌, ◌≤◌, ◌∙◌, ap, sym, subst, arith, length, drop, length-drop, length-take}
+use Rattle.std.proofs.Common.{◌≡◌, ◌≤◌, ◌-◌, ◌∙◌, [], ◌∷◌, refl, ap, sym, arith, length, take, drop}
+use Rattle.feed_text.specs.Lines.{pieces}
 use Rattle.scan_types.specs.declared.limits.TheConstants.{MOST_FEED_BYTES}
-use Rattle.feed_reader.specs.Taking.{looked_at, IsOneLine}
+use Rattle.feed_reader.specs.Taking.{looked_at}
 use Rattle.feed_reader.proofs.Splits.{one_line_on, ended_earlier}
-use Rattle.feed_reader.proofs.Takings.{takes_on, nothing_more, looked_through, no_second, all_looked_at}
+use Rattle.feed_reader.proofs.Takings.{takes_nothing, takes_on, nothing_more, looked_through, no_second, all_looked_at, length-looked_at, found_none}
 use Rattle.feed_reader.proofs.taken.Taken.search.Goals as goal
 
 pub returns-in-Some-clause-found : goal.returns-in-Some-clause-found
@@ -13,8 +14,7 @@ pub returns-in-Ok-eq0-clause-found : goal.returns-in-Ok-eq0-clause-found
 returns-in-Ok-eq0-clause-found g c =
     let one = one_line_on (looked_at c.reads.self.bytes.items) c.reads.self.start c.reads.from c.reads.invariant.after c.reads.invariant.looked c.in_default.ensures in
     let same = nothing_more _ _ c.reads.self.bytes.items c.read_more.new.self.bytes.items c.in-Ok-eq0.ensures.goes_on.takes (omega (arith, c.in-Ok-eq0.ensures.count, c.in-Ok-eq0.field-0-is, c.in-Ok-eq0.field-0-test)) in
-    let few : length c.read_more.new.self.bytes.items ≤ MOST_FEED_BYTES = omega (arith, ap length same) in
-    (rw (same, c.in-Ok-eq0.ensures.start) one, few)
+    found_none c.read_more.new.self.bytes.items c.reads.self.bytes.items c.read_more.new.self.start c.reads.self.start same c.in-Ok-eq0.ensures.start one (omega arith)
 
 pub returns-in-Ok-eq0-clause-no_read : goal.returns-in-Ok-eq0-clause-no_read
 returns-in-Ok-eq0-clause-no_read g c = λ more.
@@ -43,7 +43,7 @@ reads-preserved g c =
       start = read.start ∙ before.start;
       low = omega (arith, read.start, before.low);
       after = omega (arith, read.start, before.after, before.within, seen);
-      within = omega (arith, read.count, length-take MOST_FEED_BYTES c.read_more.new.self.bytes.items, few);
+      within = omega (arith, read.count, length-looked_at c.read_more.new.self.bytes.items, few);
       looked = looked_through _ _ c.reads.self.bytes.items c.read_more.new.self.bytes.items c.reads.self.start c.len-from.result c.read_more.new.self.start read.goes_on.takes (omega (arith, before.after, before.within, seen)) few (omega arith) read.start one;
       room = omega (arith, read.room, before.room);
       few = omega (arith, read.count, few);
@@ -59,8 +59,7 @@ reads-preserved g c =
 pub returns-in-Err-clause-found : goal.returns-in-Err-clause-found
 returns-in-Err-clause-found g c =
     let one = one_line_on (looked_at c.reads.self.bytes.items) c.reads.self.start c.reads.from c.reads.invariant.after c.reads.invariant.looked c.in_default.ensures in
-    let few : length c.read_more.new.self.bytes.items ≤ MOST_FEED_BYTES = omega (arith, ap length c.in-Err.ensures.nothing) in
-    (rw (c.in-Err.ensures.nothing, c.in-Err.ensures.start) one, few)
+    found_none c.read_more.new.self.bytes.items c.reads.self.bytes.items c.read_more.new.self.start c.reads.self.start c.in-Err.ensures.nothing c.in-Err.ensures.start one (omega arith)
 
 pub returns-in-Err-clause-no_read : goal.returns-in-Err-clause-no_read
 returns-in-Err-clause-no_read g c = λ more.
@@ -77,3 +76,28 @@ returns-in-Err-clause-goes_on g c =
       is_later = g.met.S.Source.later_transitive c.args.source.now c.reads.source c.read_more.new.source before.is_later read.is_later;
       promise_kept = λ p. read.promise_kept (before.promise_kept p);
     }
+
+pub reads-init : goal.reads-init
+reads-init g c = record {
+  start = refl;
+  low = c.requires.low;
+  after = omega arith;
+  within = omega (arith, length-looked_at c.args.self.now.bytes.items, c.requires.low, c.args.self.now.start_within, c.args.self.now.bytes.ok.0);
+  looked = ap (λ n. pieces (take n (drop c.args.self.now.start (looked_at c.args.self.now.bytes.items)))) {x = c.args.self.now.start - c.args.self.now.start} {y = 0} (omega arith)
+      ∙ sym (ap (λ n. take n (drop c.args.self.now.start (looked_at c.args.self.now.bytes.items)) ∷ []) {x = c.args.self.now.start - c.args.self.now.start} {y = 0} (omega arith));
+  room = c.requires.room;
+  few = c.requires.few;
+  goes_on = record {
+    takes = takes_nothing (g.S.Source.left c.args.source.now) c.args.self.now.bytes.items;
+    faults_kept = omega arith;
+    is_later = g.met.S.Source.later_reflexive c.args.source.now;
+    promise_kept = λ p. p;
+  };
+  no_read = λ more. (refl, refl);
+}
+
+pub returns-then-len-gt-MOST_FEED_BYTES-clause-found : goal.returns-then-len-gt-MOST_FEED_BYTES-clause-found
+returns-then-len-gt-MOST_FEED_BYTES-clause-found g c = (
+  one_line_on (looked_at c.reads.self.bytes.items) c.reads.self.start c.reads.from c.reads.invariant.after c.reads.invariant.looked c.in_default.ensures,
+  omega arith,
+)
