@@ -3,6 +3,5 @@
 
 mod find;
 mod limits;
-mod line_stub;
 mod standing;
 mod taken;

@@ -1,12 +1,9 @@
 //! What stands of one feed.
-ghost use Rattle.std.specs.Prelude.{◌≡◌, ◌<◌, ◌≤◌, ◌+◌, ℕ, List, [], Bool, true, false, set, Some, is_some, count_by, if◌then◌else◌, OnOk};
+ghost use Rattle.std.specs.Prelude.{◌≡◌, ◌<◌, ◌≤◌, ◌+◌, ℕ, List, [], set, Some, is_some, count_by, if◌then◌else◌, OnOk};
 ghost use Rattle.std.specs.Str.{bytes_eq};
-ghost use Rattle.indexmap.specs.IndexMap.{get as row_at, index_map_len, spare, IsEmpty};
-ghost use Rattle.scan_types.specs.declared.limits.TheConstants.{MOST_SELECTIONS, MOST_MATCHES};
-ghost use Rattle.scan_types.specs.Selections.{selection_number};
-ghost use Rattle.feed_text.specs.declared.accepted.Accepted.{Accepted as AcceptedLine};
-ghost use Rattle.feed_text.specs.Standing.{refused_for, is_quote};
-ghost use Rattle.feed_reader.specs.Rows.{IsStanding, row_or_empty};
+ghost use Rattle.indexmap.specs.IndexMap.{get as row_at, index_map_len, spare};
+ghost use Rattle.scan_types.specs.declared.limits.TheConstants.{MOST_SELECTIONS};
+ghost use Rattle.feed_reader.specs.Rows.{IsStanding, row_or_empty, stands_in, quote_refused_by, refused_by};
 
 use feed_text::{Cause, Change};
 use indexmap::IndexMap;
@@ -45,5 +42,80 @@ impl Standing {
     {
         self.rows.reserve(MOST_MATCHES + 1 - self.rows.len())?;
         Ok(())
+    }
+
+    /// The row of a match, and an empty one if the match was never quoted.
+    fn row(&self, name: &Name) -> [bool; MOST_SELECTIONS]
+        ensures { result ≡ row_or_empty (row_at bytes_eq self.now.rows name.now) }
+    {
+        match self.rows.get(name) {
+            Some(row) => *row,
+            None => [false; MOST_SELECTIONS],
+        }
+    }
+
+    /// Whether the selection of this number stands at the match.
+    fn stands(&self, name: &Name, number: u8) -> bool
+        requires { number < MOST_SELECTIONS }
+        ensures { result ≡ stands_in (row_at bytes_eq self.now.rows name.now) number }
+    {
+        match self.rows.get(name) {
+            Some(row) => row[usize::from(number)],
+            None => false,
+        }
+    }
+
+    /// Why a quote of the selection of this number is refused, if it is.
+    fn quote_refused(&self, name: &Name, number: u8) -> Option<Cause>
+        requires { number < MOST_SELECTIONS }
+        ensures { result ≡ quote_refused_by (row_at bytes_eq self.now.rows name.now) (index_map_len self.now.rows) number }
+    {
+        match self.rows.get(name) {
+            None => {
+                if self.rows.len() < MOST_MATCHES {
+                    None
+                } else {
+                    Some(Cause::TooManyMatches)
+                }
+            }
+            Some(row) => {
+                if row[usize::from(number)] || standing_count(row) < MOST_STANDING {
+                    None
+                } else {
+                    Some(Cause::TooManyOffers)
+                }
+            }
+        }
+    }
+
+    /// Why a line that makes this change to the selection of this number is refused, if it is.
+    pub fn refused_for(&self, name: &Name, number: u8, change: Change) -> Option<Cause>
+        requires { number < MOST_SELECTIONS }
+        ensures { result ≡ refused_by (row_at bytes_eq self.now.rows name.now) (index_map_len self.now.rows) number change }
+    {
+        match change {
+            Change::Quote(_, _) => self.quote_refused(name, number),
+            Change::Withdraw => {
+                if self.stands(name, number) {
+                    None
+                } else {
+                    Some(Cause::NotQuoted)
+                }
+            }
+        }
+    }
+
+    /// From now on the selection of this number stands at the match, or does not.
+    pub fn put(&mut self, name: Name, number: u8, stands: bool)
+        requires room { 0 < spare self.old.rows }
+        requires number { number < MOST_SELECTIONS }
+        ensures row { (q : List ℕ) → row_at bytes_eq self.new.rows q
+            ≡ (if bytes_eq name q then Some (set (row_or_empty (row_at bytes_eq self.old.rows name)) number stands) else row_at bytes_eq self.old.rows q) }
+        ensures len { index_map_len self.new.rows ≡ index_map_len self.old.rows + (if is_some (row_at bytes_eq self.old.rows name) then 0 else 1) }
+    {
+        let mut row = self.row(&name);
+        row[usize::from(number)] = stands;
+        let inserted = self.rows.insert(name, row);
+        prove!(inserted.is_ok());
     }
 }
