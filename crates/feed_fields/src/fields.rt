@@ -10,10 +10,8 @@ use std::marker::Model;
 /// A field of a line: a longest run of bytes that are no separators.
 #[derive(Drop)]
 pub struct Field<'a> {
-    /// The column of its first byte, counted from 1.
-    pub column: u32,
-    /// Its bytes.
-    pub bytes: &'a [u8],
+    column: u32,
+    bytes: &'a [u8],
 }
 
 impl<'a> Model for Field<'a> {
@@ -94,17 +92,19 @@ impl<'a> Fields<'a> {
     pub fn next(self) -> Result<(Field<'a>, Fields<'a>), Fault>
         ensures { result ≡ first_field Ok self.entry.after self.entry.others }
     {
-        let Some(start) = field_start(self.rest) else {
-            return Err(Fault {
+        match field_start(self.rest) {
+            None => Err(Fault {
                 column: self.after,
                 cause: Cause::Missing,
-            });
-        };
-        let (_, text) = self.rest.split_at(start);
-        let (bytes, rest) = text.split_at(field_length(text));
-        let column = self.after + start as u32;
-        let after = column + bytes.len() as u32;
-        Ok((Field { column, bytes }, Fields { after, rest }))
+            }),
+            Some(start) => {
+                let (_, text) = self.rest.split_at(start);
+                let (bytes, rest) = text.split_at(field_length(text));
+                let column = self.after + start as u32;
+                let after = column + bytes.len() as u32;
+                Ok((Field { column, bytes }, Fields { after, rest }))
+            }
+        }
     }
 
     /// That no field is left: the next one is too many.
@@ -133,6 +133,20 @@ impl<'a> Fields<'a> {
 
 impl<'a> Field<'a> {
     ghost use Rattle.feed_text.specs.Fields.{at_column};
+
+    /// Its bytes.
+    pub fn bytes(&self) -> &'a [u8]
+        ensures { result.now ≡ self.now.bytes }
+    {
+        self.bytes
+    }
+
+    /// The column of its first byte, counted from 1.
+    pub fn column(&self) -> u32
+        ensures { result ≡ self.now.column }
+    {
+        self.column
+    }
 
     /// What a test of its bytes says, with its column.
     pub fn tested<A>(&self, value: Result<A, Cause>) -> Result<A, Fault>

@@ -15,4 +15,4 @@ mod readers;
 mod values;
 mod words;
 
-// pub use line::{read_header, read_line};
+pub use line::{read_header, read_line};

@@ -1,5 +1,5 @@
 use Rattle.std.proofs.Common.{sym}
-use Rattle.feed_fields.proofs.First.{length_none, length_some}
+use Rattle.feed_fields.proofs.First.{length_none, length_some, length_within}
 use Rattle.feed_fields.proofs.fields.field_length.Goals as goal
 
 pub returns-in-None-clause-value : goal.returns-in-None-clause-value
@@ -9,4 +9,4 @@ pub returns-in-Some-clause-value : goal.returns-in-Some-clause-value
 returns-in-Some-clause-value c = length_some c.args.text.now c.in-Some.index (sym c.in-Some.ensures)
 
 pub returns-in-Some-clause-within : goal.returns-in-Some-clause-within
-returns-in-Some-clause-within c = ?
+returns-in-Some-clause-within c = length_within c.args.text.now c.in-Some.index (sym c.in-Some.ensures)
