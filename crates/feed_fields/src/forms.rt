@@ -8,6 +8,7 @@ use feed_text::{Action, Change, Fault, Header, Market, Request};
 use scan_types::Selection;
 
 /// feed 1 BOOK RULE.
+#[tactic(auto, unfolding(feed_text::specs::Forms::header_form))]
 pub fn header_form<'a>(fields: Fields<'a>) -> Result<(Header, Fields<'a>), Fault>
     ensures { result ≡ header_form fields.entry }
 {
@@ -19,6 +20,7 @@ pub fn header_form<'a>(fields: Fields<'a>) -> Result<(Header, Fields<'a>), Fault
 }
 
 // SIDE of the result, or LINE SIDE.
+#[tactic(auto, unfolding(feed_text::specs::Forms::selection_form))]
 fn selection_form<'a>(fields: Fields<'a>, market: Market) -> Result<(Selection, Fields<'a>), Fault>
     ensures { result ≡ selection_form market fields.entry }
 {
@@ -36,6 +38,7 @@ fn selection_form<'a>(fields: Fields<'a>, market: Market) -> Result<(Selection, 
 }
 
 // ODDS LIMIT of a quote, and nothing of a withdrawal.
+#[tactic(auto, unfolding(feed_text::specs::Forms::change_form))]
 fn change_form<'a>(fields: Fields<'a>, action: Action) -> Result<(Change, Fields<'a>), Fault>
     ensures { result ≡ change_form action fields.entry }
 {
@@ -50,6 +53,7 @@ fn change_form<'a>(fields: Fields<'a>, action: Action) -> Result<(Change, Fields
 }
 
 /// quote or withdraw, MATCH, the market, the selection at it, and the change.
+#[tactic(auto, unfolding(feed_text::specs::Forms::request_form))]
 pub fn request_form<'a>(fields: Fields<'a>) -> Result<(Request, Fields<'a>), Fault>
     ensures { result ≡ request_form fields.entry }
 {
