@@ -1,5 +1,6 @@
 //! A whole line, given as it stands before its line feed.
-ghost use Rattle.std.specs.Prelude.{◌≡◌, ◌≤◌, length};
+ghost use Rattle.std.specs.Prelude.{◌≡◌, ◌≤◌, ◌<◌, not, length, IfSome};
+ghost use Rattle.std.specs.List.{position};
 ghost use Rattle.feed_text.specs.Forms.{is_text_byte, too_long, without_return, read_ascii, header_form, request_form, header_of, line_form};
 ghost use Rattle.feed_fields.specs.Tests.{ascii_test};
 
@@ -37,12 +38,20 @@ fn is_text_byte(byte: u8) -> bool
     byte == b'\t' || (b' ' <= byte && byte <= b'~')
 }
 
-// The first byte that may not stand in a line.
+// The index of the first byte that may not stand in a line.
+fn find_other(text: &[u8]) -> Option<usize>
+    ensures value { result ≡ position (λ byte. not (is_text_byte byte)) text.now }
+    ensures within { IfSome result (λ index. index < length text.now) }
+{
+    text.iter().position(|byte| !is_text_byte(*byte))
+}
+
+// That each byte may stand in a line.
 fn check_bytes(text: &[u8]) -> Result<(), Fault>
     requires { length text.now ≤ MOST_LINE_BYTES }
     ensures { result ≡ ascii_test text.now }
 {
-    match text.iter().position(|byte| !is_text_byte(*byte)) {
+    match find_other(text) {
         None => Ok(()),
         Some(index) => Err(Fault {
             column: index as u32 + 1,
@@ -77,6 +86,7 @@ fn request_text(text: &[u8]) -> Result<Request, Fault>
 ///
 /// The fault is the first one of these tests: the line is too long, a byte is not allowed, then the fields `feed 1 BOOK RULE` from left
 /// to right, and a field too many. O(bytes of the line); takes no memory.
+#[tactic(auto, unfolding(feed_text::specs::Forms::header_of))]
 pub fn read_header(line: &[u8]) -> Result<Header, Fault>
     ensures { result ≡ header_of line.now }
 {
@@ -90,6 +100,7 @@ pub fn read_header(line: &[u8]) -> Result<Header, Fault>
 ///
 /// The answer is the first one of these: the line is too long, it is skipped, a byte is not allowed, then the fields of a quote or a
 /// withdrawal from left to right, and a field too many. O(bytes of the line); takes no memory.
+#[tactic(auto, unfolding(feed_text::specs::Forms::line_form))]
 pub fn read_line(line: &[u8]) -> LineForm
     ensures { result ≡ line_form line.now }
 {
