@@ -1,12 +1,11 @@
 -- The steps of a feed, as one function of all its bytes.
-use Rattle.std.specs.Prelude.{ℕ, suc, Bool, List, [], ◌∷◌, ◌++◌, Option, Some, None, Result, Ok, Err, if◌then◌else◌}
+use Rattle.std.specs.Prelude.{ℕ, suc, Bool, List, [], ◌∷◌, ◌++◌, Option, Some, None, Ok, Err, if◌then◌else◌}
 use Rattle.std.specs.List.{filter_map}
 use Rattle.scan_types.specs.Selections.{selection_number}
 use Rattle.feed_text.specs.declared.accepted.Accepted.{Accepted}
 use Rattle.feed_text.specs.declared.cause.Cause.{Cause}
 use Rattle.feed_text.specs.declared.cause.Fault.{Fault}
 use Rattle.feed_text.specs.declared.cause.Refusal.{Refusal}
-use Rattle.feed_text.specs.declared.header.Header.{Header}
 use Rattle.feed_text.specs.declared.request.Request.{Request}
 use Rattle.feed_text.specs.declared.request.LineForm.{LineForm}
 use Rattle.feed_text.specs.declared.request.LineForm.TheVariants as form
@@ -57,9 +56,9 @@ line_steps ending before number (line ∷ lines) =
 unfoldable pub feed_steps : Step → List (List ℕ) → List Step
 feed_steps ending [] = ending ∷ []
 feed_steps ending (line ∷ lines) = elim (header_of line) [
-    | Err fault ↦ step.BadHeader (refusal 1 fault) ∷ []
-    | Ok header ↦ step.Header header ∷ line_steps ending [] 2 lines
-  ]
+  | Err fault ↦ step.BadHeader (refusal 1 fault) ∷ []
+  | Ok header ↦ step.Header header ∷ line_steps ending [] 2 lines
+]
 
 -- how the feed ends after its lines
 abbrev pub ending : Bool → List ℕ → Step

@@ -3,3 +3,5 @@ pub mod Fields
 pub mod Forms
 pub mod Standing
 pub mod Feed
+pub mod Answers
+pub mod Laws

@@ -1,5 +1,5 @@
 -- What the accepted lines of a feed leave standing, and which requests it refuses.
-use Rattle.std.specs.Prelude.{ℕ, Bool, true, false, not, ◌==◌, ◌&&◌, ◌||◌, nat_lt, nat_le, List, [], ◌∷◌, length, map, filter, reverse, find, count_by, Option, Some, None, if◌then◌else◌}
+use Rattle.std.specs.Prelude.{ℕ, Bool, true, false, not, ◌==◌, ◌&&◌, ◌||◌, nat_lt, List, [], ◌∷◌, length, map, filter, reverse, find, count_by, Option, Some, None, if◌then◌else◌}
 use Rattle.std.specs.List.{list_any, range_with_len}
 use Rattle.std.specs.Str.{bytes_eq}
 use Rattle.scan_types.specs.declared.limits.TheConstants.{MOST_MATCHES, MOST_STANDING, MOST_SELECTIONS}
@@ -9,7 +9,6 @@ use Rattle.feed_text.specs.declared.accepted.Change.{Change}
 use Rattle.feed_text.specs.declared.accepted.Change.TheVariants.{Quote, Withdraw}
 use Rattle.feed_text.specs.declared.cause.Cause.{Cause}
 use Rattle.feed_text.specs.declared.cause.Cause.TheVariants.{TooManyMatches, TooManyOffers, NotQuoted}
-use Rattle.feed_text.specs.declared.request.Request.{Request}
 
 abbrev pub is_quote : Change → Bool
 is_quote (Quote odds limit) = true
