@@ -1,0 +1,5 @@
+pub mod Causes
+pub mod FieldParts
+pub mod First
+pub mod NextField
+pub mod Chains
