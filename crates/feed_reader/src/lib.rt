@@ -3,5 +3,6 @@
 
 mod find;
 mod limits;
+mod line_step;
 mod standing;
 mod taken;
