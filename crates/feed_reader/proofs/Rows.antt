@@ -3,6 +3,7 @@ use Rattle.std.proofs.Common.{◌≡◌, ℕ, zero, suc, ◌+◌, ◌<◌, ◌�
 use Rattle.std.specs.List.{list_any, range_with_len}
 use Rattle.std.specs.Str.{bytes_eq}
 use Rattle.std.proofs.lemmas.Bool.{ltb-true, eqb-true, eq-eqb, false≢true}
+use Rattle.std.proofs.lemmas.List.Sums.{sum_by-cons}
 use Rattle.std.proofs.lemmas.List.{reverse-append, get_or-set_same, get_or-set_other, get_or-replicate, length-set, length-replicate}
 use Rattle.std.proofs.lemmas.Slice.Eq.{bytes_eq-Decides}
 use Rattle.scan_types.specs.declared.limits.TheConstants.{MOST_MATCHES, MOST_SELECTIONS, MOST_STANDING}
@@ -138,18 +139,21 @@ count_same : (f : ℕ → Bool) (row : List Bool) (a : ℕ) → ((i : ℕ) → i
     count_by f (range_with_len a (length row)) ≡ count_by (λ t. t) row
 count_same f [] a h = refl
 count_same f (t ∷ row) a h =
-    ap (λ n. cond (f a) 1 0 + n) (count_same f row (a + 1) (λ i within. ap f (omega arith) ∙ h (suc i) (omega arith)))
+    sum_by-cons (λ (i : ℕ). cond (f i) 1 0) a (range_with_len (a + 1) (length row))
+    ∙ ap (λ n. cond (f a) 1 0 + n) (count_same f row (a + 1) (λ i within. ap f (omega arith) ∙ h (suc i) (omega arith)))
     ∙ ap (λ b. cond b 1 0 + count_by (λ t. t) row) (ap f (omega arith) ∙ h 0 (omega arith))
+    ∙ sym (sum_by-cons (λ (b : Bool). cond b 1 0) t row)
 
 count_none : (f : ℕ → Bool) (a n : ℕ) → ((i : ℕ) → i < n → f (a + i) ≡ false) → count_by f (range_with_len a n) ≡ 0
 count_none f a zero h = refl
 count_none f a (suc n) h =
-    ap (λ m. cond (f a) 1 0 + m) (count_none f (a + 1) n (λ i within. ap f (omega arith) ∙ h (suc i) (omega arith)))
+    sum_by-cons (λ (i : ℕ). cond (f i) 1 0) a (range_with_len (a + 1) n)
+    ∙ ap (λ m. cond (f a) 1 0 + m) (count_none f (a + 1) n (λ i within. ap f (omega arith) ∙ h (suc i) (omega arith)))
     ∙ ap (λ b. cond b 1 0 + 0) (ap f (omega arith) ∙ h 0 (omega arith))
 
 none_in : (n : ℕ) → count_by (λ t. t) (replicate n false) ≡ 0
 none_in zero = refl
-none_in (suc n) = none_in n
+none_in (suc n) = sum_by-cons (λ (b : Bool). cond b 1 0) false (replicate n false) ∙ ap (λ m. 0 + m) (none_in n)
 
 abbrev refuse : Bool → Bool → Option Cause
 refuse m s = cond (not m) (Some TooManyMatches) (cond (not s) (Some TooManyOffers) None)
