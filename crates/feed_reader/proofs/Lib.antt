@@ -1,3 +1,4 @@
 pub mod Splits
 pub mod Takings
 pub mod Rows
+pub mod Lines
