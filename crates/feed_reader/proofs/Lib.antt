@@ -2,3 +2,4 @@ pub mod Splits
 pub mod Takings
 pub mod Rows
 pub mod Lines
+pub mod Answering

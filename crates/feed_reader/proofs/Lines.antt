@@ -1,5 +1,7 @@
 -- How the next line stands in the bytes taken, as lines of the text.
 use Rattle.std.proofs.Common.{◌≡◌, ℕ, zero, suc, ◌+◌, ◌-◌, ◌<◌, ◌≤◌, Bool, true, false, not, cond, eqb, ltb, ◌&&◌, ◌||◌, ◌⊎◌, List, [], ◌∷◌, ◌++◌, length, take, drop, min, slice_get, Some, refl, sym, ap, ◌∙◌, subst, arith, append-nil, append_assoc, length-append, length-take, length-drop, inl, inr, ⊎_elim}
+use Rattle.std.proofs.lemmas.Bool.{ltb-true, ltb-false}
+use Rattle.std.proofs.Math.ListN.{drop_of_length-le}
 use Rattle.std.proofs.lemmas.Bool.Decides.{nat_tests}
 use Rattle.std.proofs.lemmas.List.{take-append-drop, take-append-le, take_all, length-take-le}
 use Rattle.std.specs.List.{onto_first}
@@ -325,3 +327,51 @@ module _ (bytes : List ℕ) (start k : ℕ) (at : IsAtLine bytes start k) where
 
 pub read_out_after : (bytes : List ℕ) (k : ℕ) → IsReadOut bytes k → IsAfterLines true bytes k step.End
 read_out_after bytes k out = record { all = out.all; ends = ending_by false bytes false out.not_cut }
+
+-- line feeds that were taken and not passed over
+pub more_lines : (bytes : List ℕ) (start k : ℕ) → IsAtLine bytes start k → k < length (ended_lines bytes) →
+    (start < length bytes) × ((1 < length (pieces (drop start (looked_at bytes)))) ⊎ (MOST_FEED_BYTES < length bytes))
+more_lines bytes start k at h = (within, by_size (ltb MOST_FEED_BYTES (length bytes)) refl)
+  where
+    ended_is : ended_lines bytes ≡ ended_lines (take start bytes) ++ front (pieces (drop start bytes))
+    ended_is =
+        ap ended_lines (sym (take-append-drop start bytes))
+        ∙ ended_joined (take start bytes) (drop start bytes)
+        ∙ ap (λ u. ended_lines (take start bytes) ++ front (onto u (pieces (drop start bytes)))) at.whole
+        ∙ ap (λ ps. ended_lines (take start bytes) ++ front ps) (onto_nothing (pieces (drop start bytes)))
+    feeds : 1 < length (pieces (drop start bytes))
+    feeds = omega (arith, h, ap length ended_is, length-append (ended_lines (take start bytes)) (front (pieces (drop start bytes))), at.count, length-front (pieces (drop start bytes)))
+    empty : (xs : List ℕ) → length xs ≡ 0 → 1 < length (pieces xs) → ⊥
+    empty [] h g = omega (arith, g)
+    empty (x ∷ xs) h g = omega (arith, h)
+    positive : (n : ℕ) → length (drop start bytes) ≡ n → start < length bytes
+    positive zero e = absurd (empty (drop start bytes) e feeds)
+    positive (suc n) e = omega (arith, e, length-drop start bytes)
+    within : start < length bytes
+    within = positive (length (drop start bytes)) refl
+    by_size : (b : Bool) → ltb MOST_FEED_BYTES (length bytes) ≡ b → (1 < length (pieces (drop start (looked_at bytes)))) ⊎ (MOST_FEED_BYTES < length bytes)
+    by_size true e = inr (ltb-true MOST_FEED_BYTES (length bytes) e)
+    by_size false e = inl (subst (λ b. 1 < length (pieces (drop start b))) (sym (all_looked_at bytes (ltb-false MOST_FEED_BYTES (length bytes) e))) feeds)
+
+nothing_left : (bytes : List ℕ) (start : ℕ) → length bytes ≤ start → drop start bytes ≡ []
+nothing_left bytes start h = drop_of_length-le bytes h
+
+-- at the end of the bytes
+pub at_end_of : (bytes : List ℕ) (start k : ℕ) → IsAtLine bytes start k → length bytes ≤ start → IsOneLine (drop start (looked_at bytes)) × (length bytes ≤ MOST_FEED_BYTES) × (length (drop start bytes) ≡ 0)
+at_end_of bytes start k at h =
+    let few : length bytes ≤ MOST_FEED_BYTES = omega (arith, h, at.low) in (
+      subst (λ b. IsOneLine (drop start b)) (sym (all_looked_at bytes few)) (subst IsOneLine (sym (nothing_left bytes start h)) refl),
+      few,
+      ap length (nothing_left bytes start h),
+    )
+
+-- at the end of the bytes, after as many lines as are answered
+pub full_at_end : (bytes : List ℕ) (start k : ℕ) → IsAtLine bytes start k → length bytes ≤ start → k ≡ MOST_LINES →
+    IsAfterLines true bytes k step.End × IsAfterLines false bytes k step.ReadFault
+full_at_end bytes start k at h full =
+    let ends = at_end_of bytes start k at h in
+    let low : k ≤ MOST_LINES = omega (arith, full) in
+    let some : 0 < k = omega (arith, full) in (
+      end_after bytes start k at ends.0 ends.1 low some ends.2,
+      fault_after bytes start k at ends.0 ends.1 low (few_none bytes start k at ends.0 ends.1 low some ends.2),
+    )

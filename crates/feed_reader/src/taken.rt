@@ -132,4 +132,30 @@ impl Taken {
             }
         }
     }
+
+    /// The line that ends at this index.
+    pub fn line(&self, end: usize) -> &[u8]
+        requires after { self.now.start ≤ end }
+        requires within { end < length (looked_at self.now.bytes.items) }
+        ensures { result.now ≡ take (end - self.now.start) (drop self.now.start (looked_at self.now.bytes.items)) }
+    {
+        let looked = self.looked_at();
+        &looked[self.start..end]
+    }
+
+    /// What stands from the start on.
+    pub fn rest(&self) -> &[u8]
+        ensures { result.now ≡ drop self.now.start self.now.bytes.items }
+    {
+        &self.bytes[self.start..]
+    }
+
+    /// Passes over the line that ends before the line feed at this index.
+    pub fn pass(&mut self, end: usize)
+        requires { end < length (looked_at self.old.bytes.items) }
+        ensures bytes { self.new.bytes.items ≡ self.old.bytes.items }
+        ensures start { self.new.start ≡ end + 1 }
+    {
+        self.start = end + 1;
+    }
 }
