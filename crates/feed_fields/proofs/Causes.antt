@@ -1,5 +1,5 @@
 -- A line of a text, as a constructor answers it.
-use Rattle.std.proofs.Common.{◌≡◌, ℕ, List, Option, Some, None, Result, Ok, Err, refl, ap, ◌∙◌}
+use Rattle.std.proofs.Common.{◌≡◌, ℕ, List, Option, Some, None, refl, ap, ◌∙◌}
 use Rattle.std.specs.Option.{ok_or}
 use Rattle.std.specs.Prelude.{ℤ}
 use Rattle.number_definitions.specs.Readings.{quarters_of}

@@ -1,5 +1,5 @@
 -- What the next field of a text is, at the fields that are still to be read.
-use Rattle.std.proofs.Common.{◌≡◌, ℕ, suc, ◌+◌, ◌-◌, ◌≤◌, Bool, true, List, [], ◌∷◌, length, take, drop, get_or, eqb, not, Option, Some, None, Result, Ok, Err, refl, sym, ap, ◌∙◌, arith}
+use Rattle.std.proofs.Common.{◌≡◌, ℕ, ◌+◌, ◌≤◌, true, List, length, take, drop, get_or, eqb, not, Some, None, Result, Ok, Err, sym, ap, ◌∙◌, arith}
 use Rattle.std.specs.List.{position, position_or_len}
 use Rattle.feed_text.specs.declared.cause.Fault.{Fault}
 use Rattle.feed_text.specs.declared.cause.Cause.TheVariants.{Missing, Extra}
@@ -34,12 +34,13 @@ first_byte text column start is = sym (ap is_skipped (next_field text column sta
 
 -- the first field of a text that begins with one, and what follows it
 abbrev pub next_of : ℕ → List ℕ → Field × Unread
-next_of column rest =
-    (record { column = column; bytes = take (position_or_len is_separator rest) rest },
-    record {
-      after = column + length (take (position_or_len is_separator rest) rest);
-      others = fields_from (column + length (take (position_or_len is_separator rest) rest)) (drop (position_or_len is_separator rest) rest);
-    })
+next_of column rest = (
+  record { column = column; bytes = take (position_or_len is_separator rest) rest },
+  record {
+    after = column + length (take (position_or_len is_separator rest) rest);
+    others = fields_from (column + length (take (position_or_len is_separator rest) rest)) (drop (position_or_len is_separator rest) rest);
+  },
+)
 
 one_next : (text : List ℕ) (column start : ℕ) → position is_other text ≡ Some start →
     Ok (next_of (column + start) (drop start text)) ≡ first_field {A = Field} Ok column (fields_from column text)

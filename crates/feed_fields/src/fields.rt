@@ -1,5 +1,5 @@
 //! What is still to be read of a line.
-ghost use Rattle.std.specs.Prelude.{◌≡◌, ◌≤◌, Bool, not, Ok, length};
+ghost use Rattle.std.specs.Prelude.{◌≡◌, ◌≤◌, Bool, not, Ok, IfOk, length};
 ghost use Rattle.std.specs.List.{position, position_or_len};
 ghost use Rattle.feed_text.specs.Fields.{is_separator};
 
@@ -150,7 +150,8 @@ impl<'a> Field<'a> {
 
     /// What a test of its bytes says, with its column.
     pub fn tested<A>(&self, value: Result<A, Cause>) -> Result<A, Fault>
-        ensures { result ≡ at_column self.now.column value }
+        ensures said { result ≡ at_column self.now.column value }
+        ensures passed { IfOk result (λ found. value ≡ Ok found) }
     {
         match value {
             Ok(value) => Ok(value),

@@ -1,9 +1,14 @@
 //! The forms of lines: their fields from left to right.
-ghost use Rattle.std.specs.Prelude.{◌≡◌};
+ghost use Rattle.std.specs.Prelude.{◌≡◌, IfOk};
+ghost use Rattle.feed_fields.specs.Tests.{HasLimitInRange};
 ghost use Rattle.feed_text.specs.Forms.{header_form, selection_form, change_form, request_form};
 
 use crate::fields::Fields;
-use crate::readers::{next_action, next_feed, next_handicap, next_handicap_side, next_limit, next_market, next_name, next_odds, next_placed_name, next_result_side, next_rule, next_total, next_total_side, next_version};
+use crate::readers::{
+    next_action, next_feed, next_handicap, next_handicap_side, next_limit, next_market, next_name,
+    next_odds, next_placed_name, next_result_side, next_rule, next_total, next_total_side,
+    next_version,
+};
 use feed_text::{Action, Change, Fault, Header, Market, Request};
 use scan_types::Selection;
 
@@ -40,7 +45,8 @@ fn selection_form<'a>(fields: Fields<'a>, market: Market) -> Result<(Selection, 
 // ODDS LIMIT of a quote, and nothing of a withdrawal.
 #[tactic(auto, unfolding(feed_text::specs::Forms::change_form))]
 fn change_form<'a>(fields: Fields<'a>, action: Action) -> Result<(Change, Fields<'a>), Fault>
-    ensures { result ≡ change_form action fields.entry }
+    ensures value { result ≡ change_form action fields.entry }
+    ensures range { IfOk result (λ read. HasLimitInRange read.0) }
 {
     match action {
         Action::Quotes => {
@@ -55,7 +61,8 @@ fn change_form<'a>(fields: Fields<'a>, action: Action) -> Result<(Change, Fields
 /// quote or withdraw, MATCH, the market, the selection at it, and the change.
 #[tactic(auto, unfolding(feed_text::specs::Forms::request_form))]
 pub fn request_form<'a>(fields: Fields<'a>) -> Result<(Request, Fields<'a>), Fault>
-    ensures { result ≡ request_form fields.entry }
+    ensures value { result ≡ request_form fields.entry }
+    ensures range { IfOk result (λ read. HasLimitInRange read.0.change) }
 {
     let (action, fields) = next_action(fields)?;
     let ((column, match_name), fields) = next_placed_name(fields)?;

@@ -16,3 +16,6 @@ mod values;
 mod words;
 
 pub use line::{read_header, read_line};
+
+#[cfg(test)]
+mod tests;

@@ -1,8 +1,8 @@
 //! A whole line, given as it stands before its line feed.
-ghost use Rattle.std.specs.Prelude.{◌≡◌, ◌≤◌, ◌<◌, not, length, IfSome};
+ghost use Rattle.std.specs.Prelude.{◌≡◌, ◌≤◌, ◌<◌, not, length, IfSome, IfOk};
 ghost use Rattle.std.specs.List.{position};
 ghost use Rattle.feed_text.specs.Forms.{is_text_byte, too_long, without_return, read_ascii, header_form, request_form, header_of, line_form};
-ghost use Rattle.feed_fields.specs.Tests.{ascii_test};
+ghost use Rattle.feed_fields.specs.Tests.{ascii_test, HasLimitInRange, IfAsks};
 
 use crate::fields::Fields;
 use crate::forms::{header_form, request_form};
@@ -28,7 +28,11 @@ fn without_return(line: &[u8]) -> &[u8]
         return line;
     }
     let last = line.len() - 1;
-    if line[last] == b'\r' { &line[..last] } else { line }
+    if line[last] == b'\r' {
+        &line[..last]
+    } else {
+        line
+    }
 }
 
 // Whether the byte may stand in a line: a tab, or printable ASCII.
@@ -74,7 +78,8 @@ fn header_text(text: &[u8]) -> Result<Header, Fault>
 // The request that a text is.
 fn request_text(text: &[u8]) -> Result<Request, Fault>
     requires { length text.now ≤ MOST_LINE_BYTES }
-    ensures { result ≡ read_ascii request_form text.now }
+    ensures value { result ≡ read_ascii request_form text.now }
+    ensures range { IfOk result (λ request. HasLimitInRange request.change) }
 {
     check_bytes(text)?;
     let (request, others) = request_form(Fields::of(text))?;
@@ -102,7 +107,8 @@ pub fn read_header(line: &[u8]) -> Result<Header, Fault>
 /// withdrawal from left to right, and a field too many. O(bytes of the line); takes no memory.
 #[tactic(auto, unfolding(feed_text::specs::Forms::line_form))]
 pub fn read_line(line: &[u8]) -> LineForm
-    ensures { result ≡ line_form line.now }
+    ensures value { result ≡ line_form line.now }
+    ensures range { IfAsks result (λ request. HasLimitInRange request.change) }
 {
     if line.len() > MOST_LINE_BYTES {
         return LineForm::Wrong(too_long());

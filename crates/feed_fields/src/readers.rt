@@ -1,12 +1,16 @@
 //! The next field by its test. Each function reads one field, or finds what is wrong with it.
-ghost use Rattle.std.specs.Prelude.{◌≡◌};
+ghost use Rattle.std.specs.Prelude.{◌≡◌, IfOk};
+ghost use Rattle.scan_types.specs.Ranges.{IsLimitRange};
 ghost use Rattle.feed_text.specs.Fields.{next, next_at};
 ghost use Rattle.feed_text.specs.Forms.{one_of, feed_words, version_words, rule_words, action_words, market_words, result_words, handicap_words, total_words};
 ghost use Rattle.feed_text.specs.Forms.{name_value, odds_value, limit_value, handicap_value, total_value};
 
 use crate::fields::Fields;
 use crate::values::{handicap_value, limit_value, name_value, odds_value, total_value};
-use crate::words::{action_word, feed_word, handicap_word, market_word, result_word, rule_word, total_word, version_word};
+use crate::words::{
+    action_word, feed_word, handicap_word, market_word, result_word, rule_word, total_word,
+    version_word,
+};
 use feed_text::{Action, Fault, Market};
 use scan_types::{HandicapLine, Name, Odds, Selection, TotalLine, VoidRule};
 
@@ -83,7 +87,10 @@ pub fn next_handicap<'a>(fields: Fields<'a>) -> Result<(HandicapLine, Fields<'a>
 }
 
 /// A side at this handicap line.
-pub fn next_handicap_side<'a>(fields: Fields<'a>, line: HandicapLine) -> Result<(Selection, Fields<'a>), Fault>
+pub fn next_handicap_side<'a>(
+    fields: Fields<'a>,
+    line: HandicapLine,
+) -> Result<(Selection, Fields<'a>), Fault>
     ensures { result ≡ next (one_of (handicap_words line)) fields.entry }
 {
     let (field, others) = fields.next()?;
@@ -101,7 +108,10 @@ pub fn next_total<'a>(fields: Fields<'a>) -> Result<(TotalLine, Fields<'a>), Fau
 }
 
 /// A side of this total line.
-pub fn next_total_side<'a>(fields: Fields<'a>, line: TotalLine) -> Result<(Selection, Fields<'a>), Fault>
+pub fn next_total_side<'a>(
+    fields: Fields<'a>,
+    line: TotalLine,
+) -> Result<(Selection, Fields<'a>), Fault>
     ensures { result ≡ next (one_of (total_words line)) fields.entry }
 {
     let (field, others) = fields.next()?;
@@ -120,7 +130,8 @@ pub fn next_odds<'a>(fields: Fields<'a>) -> Result<(Odds, Fields<'a>), Fault>
 
 /// A stake limit in minor units.
 pub fn next_limit<'a>(fields: Fields<'a>) -> Result<(u32, Fields<'a>), Fault>
-    ensures { result ≡ next limit_value fields.entry }
+    ensures value { result ≡ next limit_value fields.entry }
+    ensures range { IfOk result (λ read. IsLimitRange read.0) }
 {
     let (field, others) = fields.next()?;
     let value = field.tested(limit_value(field.bytes()))?;

@@ -1,5 +1,6 @@
 //! Names, odds, stake limits and lines as fields.
-ghost use Rattle.std.specs.Prelude.{◌≡◌};
+ghost use Rattle.std.specs.Prelude.{◌≡◌, IfOk};
+ghost use Rattle.scan_types.specs.Ranges.{IsLimitRange};
 ghost use Rattle.feed_text.specs.Forms.{name_value, odds_value, limit_value, handicap_value, total_value};
 
 use feed_text::Cause;
@@ -26,7 +27,8 @@ pub fn odds_value(text: &[u8]) -> Result<Odds, Cause>
 
 /// A stake limit in minor units.
 pub fn limit_value(text: &[u8]) -> Result<u32, Cause>
-    ensures { result ≡ limit_value text.now }
+    ensures value { result ≡ limit_value text.now }
+    ensures range { IfOk result IsLimitRange }
 {
     match read_limit(text) {
         Ok(limit) => Ok(limit),
