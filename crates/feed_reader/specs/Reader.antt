@@ -11,14 +11,14 @@ use Rattle.feed_reader.specs.declared.next_line.NextLine.TheVariants as next
 use Rattle.feed_reader.specs.Rows.{IsStanding}
 use Rattle.feed_reader.specs.Taking.{looked_at}
 
--- the feed's number, the bytes taken so far, how many answers were given and how many of them are for lines, whether a read has answered
--- that no bytes are left, whether the last answer ended the feed, and the source
+-- the feed's number, the bytes taken so far, how many answers were given, whether a read has answered that no bytes are left, whether
+-- the last answer was for no line, whether nothing follows it, and the source
 pub record ReaderView (S : Type 0) : Type 0 where
   pub feed : ℕ
   pub taken : List ℕ
   pub answers : ℕ
-  pub lines : ℕ
   pub drained : Bool
+  pub ended : Bool
   pub over : Bool
   pub source : S
 
@@ -67,9 +67,9 @@ pub record IsReading (bytes : List ℕ) (start lines : ℕ) (drained : Bool) (ro
   pub few_lines : lines ≤ MOST_LINES
 
 -- what holds of a reader's parts
-pub record IsReader (bytes : List ℕ) (start lines answers : ℕ) (drained over : Bool) (row_of : List ℕ → Option (List Bool)) (rows : ℕ) : Type 0 where
-  pub reading : over ≡ false → IsReading bytes start lines drained row_of rows
-  pub each_for_a_line : over ≡ false → answers ≡ lines
+pub record IsReader (bytes : List ℕ) (start answers : ℕ) (drained ended over : Bool) (row_of : List ℕ → Option (List Bool)) (rows : ℕ) : Type 0 where
+  pub reading : over ≡ false → IsReading bytes start answers drained row_of rows
+  pub some : ended ≡ true → 0 < answers
   pub few_taken : length bytes ≤ 4198400
   pub few_rows : rows ≤ 256
 
