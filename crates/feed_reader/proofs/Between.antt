@@ -1,8 +1,7 @@
 -- A reader between two answers: what it answered stays.
-use Rattle.std.proofs.Common.{◌≡◌, ℕ, ◌+◌, ◌≤◌, Bool, true, false, not, List, ◌++◌, take, refl, sym, ap, ◌∙◌, subst}
+use Rattle.std.proofs.Common.{◌≡◌, ℕ, ◌≤◌, Bool, true, false, not, List, ◌++◌, take, refl, sym, ap, ◌∙◌, subst}
 use Rattle.std.specs.Prelude.{Option}
 use Rattle.scan_types.specs.declared.limits.TheConstants.{MOST_LINES}
-use Rattle.feed_text.specs.declared.step.Step.{Step}
 use Rattle.feed_text.proofs.Prefixes.{steps_stay}
 use Rattle.feed_reader.specs.Reader.{steps_so, IsAtLine, IsReading}
 use Rattle.feed_reader.proofs.Lines.{enough}

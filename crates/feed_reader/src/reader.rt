@@ -22,12 +22,7 @@ use std::alloc::Global;
 use std::marker::Model;
 
 /// How the next line stands. Once a read has answered that no bytes are left, none is made.
-fn found_next<S: Source>(
-    taken: &mut Taken,
-    source: &mut S,
-    lines: u32,
-    drained: bool,
-) -> NextLine
+fn found_next<S: Source>(taken: &mut Taken, source: &mut S, lines: u32, drained: bool) -> NextLine
     requires room { 4198400 ≤ vec_capacity taken.old.bytes }
     requires few_lines { lines ≤ MOST_LINES }
     requires at_line { drained ≡ false → IsAtLine taken.old.bytes.items taken.old.start lines }

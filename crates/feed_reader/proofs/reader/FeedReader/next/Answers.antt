@@ -1,4 +1,4 @@
-use Rattle.std.proofs.Common.{◌≡◌, ℕ, ◌+◌, Bool, false, true, List, [], ◌∷◌, ◌++◌, length, take, sym, ap, ◌∙◌, subst, arith}
+use Rattle.std.proofs.Common.{ℕ, ◌+◌, Bool, List, [], ◌∷◌, ◌++◌, length, take, sym, ap, ◌∙◌, subst, arith}
 use Rattle.std.specs.Str.{bytes_eq}
 use Rattle.std.specs.Map.{lookup}
 use Rattle.indexmap.specs.IndexMap.{get as row_at, index_map_len}
@@ -21,8 +21,8 @@ answer-step-requires-clause-opened g c =
     let same = c.in_ok-reserve-2.ensures.same in
     let takes = c.found_next-found.ensures.goes_on.takes in
     let kept = kept_answers old now takes.more c.self.inside.taken.start count was found
-        reading.few_lines reading.at_line (takes.appended ∙ ap (λ (l : List ℕ). l ++ takes.more) same)
-        (λ h. let k = c.found_next-found.ensures.kept h in (k.0, k.1 ∙ same)) in
+    reading.few_lines reading.at_line (takes.appended ∙ ap (λ (l : List ℕ). l ++ takes.more) same)
+    (λ h. let k = c.found_next-found.ensures.kept h in (k.0, k.1 ∙ same)) in
     ap (λ (l : List Step). is_open l) kept ∙ reading.opened
 
 pub answer-step-requires-clause-standing : goal.answer-step-requires-clause-standing
@@ -36,8 +36,8 @@ answer-step-requires-clause-standing g c =
     let same = c.in_ok-reserve-2.ensures.same in
     let takes = c.found_next-found.ensures.goes_on.takes in
     let kept = kept_answers old now takes.more c.self.inside.taken.start count was found
-        reading.few_lines reading.at_line (takes.appended ∙ ap (λ (l : List ℕ). l ++ takes.more) same)
-        (λ h. let k = c.found_next-found.ensures.kept h in (k.0, k.1 ∙ same)) in
+    reading.few_lines reading.at_line (takes.appended ∙ ap (λ (l : List ℕ). l ++ takes.more) same)
+    (λ h. let k = c.found_next-found.ensures.kept h in (k.0, k.1 ∙ same)) in
     subst (λ (l : List Step). IsStanding (row_at bytes_eq c.reserve.new.self.rows) (index_map_len c.reserve.new.self.rows) (accepted_in l)) (sym kept)
     (subst (λ (es : List (List ℕ × List Bool)). IsStanding (λ q. lookup (bytes_eq q) es) (length es) (accepted_in (take count (steps_so was old)))) (sym c.in_ok-reserve.ensures.same) reading.standing)
 
@@ -62,8 +62,8 @@ returns-clause-earlier g c =
     let same = c.in_ok-reserve-2.ensures.same in
     let takes = c.found_next-found.ensures.goes_on.takes in
     let kept = kept_answers old now takes.more c.self.inside.taken.start count was found
-        reading.few_lines reading.at_line (takes.appended ∙ ap (λ (l : List ℕ). l ++ takes.more) same)
-        (λ h. let k = c.found_next-found.ensures.kept h in (k.0, k.1 ∙ same)) in
+    reading.few_lines reading.at_line (takes.appended ∙ ap (λ (l : List ℕ). l ++ takes.more) same)
+    (λ h. let k = c.found_next-found.ensures.kept h in (k.0, k.1 ∙ same)) in
     ap (λ (n : ℕ). take n (steps_so c.is_drained-drained.result c.answer-step.new.taken.bytes.items)) (sym (ap (λ v. v.answers) c.self.view_is))
     ∙ same_list count c.is_drained-drained.result found c.answer-step.new.taken.bytes.items now c.is_drained-drained.ensures c.answer-step.ensures.bytes
     ∙ kept
@@ -80,8 +80,8 @@ returns-clause-answered g c =
     let same = c.in_ok-reserve-2.ensures.same in
     let takes = c.found_next-found.ensures.goes_on.takes in
     let kept = kept_answers old now takes.more c.self.inside.taken.start count was found
-        reading.few_lines reading.at_line (takes.appended ∙ ap (λ (l : List ℕ). l ++ takes.more) same)
-        (λ h. let k = c.found_next-found.ensures.kept h in (k.0, k.1 ∙ same)) in
+    reading.few_lines reading.at_line (takes.appended ∙ ap (λ (l : List ℕ). l ++ takes.more) same)
+    (λ h. let k = c.found_next-found.ensures.kept h in (k.0, k.1 ∙ same)) in
     same_list (count + 1) c.is_drained-drained.result found c.answer-step.new.taken.bytes.items now c.is_drained-drained.ensures c.answer-step.ensures.bytes
     ∙ c.answer-step.ensures.answer.taken
     ∙ ap (λ (l : List Step). l ++ c.answer-step.result ∷ []) (kept ∙ ap (λ v. answered v) c.self.view_is)
