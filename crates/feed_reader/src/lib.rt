@@ -22,3 +22,6 @@ mod taken;
 
 pub use feed_text::{Accepted, Change, Header, Step};
 pub use reader::FeedReader;
+
+#[cfg(test)]
+mod tests;
