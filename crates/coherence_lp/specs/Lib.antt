@@ -1,1 +1,4 @@
 pub mod Comparisons
+pub mod Ends
+pub mod Faults
+pub mod Ratios
