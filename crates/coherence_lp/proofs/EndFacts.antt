@@ -16,6 +16,7 @@ use Rattle.pivot_definitions.proofs.KeptFeasible.{values_are_not_negative}
 use Rattle.judging_definitions.specs.Stakes.{Fraction, value_in_row, column_value}
 use Rattle.judging_definitions.specs.Readings.{HasLevelOne}
 use Rattle.judging_laws.specs.Laws.{IsAtBest}
+use Rattle.judging_laws.proofs.ClassFacts.{classes_few}
 use Rattle.coherence_lp.specs.Ends.{IsBestEnd, IsFirstEnd, IsLimitedEnd, IsProgramEnd}
 
 -- a tableau of a run has its program's columns and rows
@@ -38,13 +39,14 @@ reached_shape program tableau (is, capped, pivots, plain, run, kept_is) =
 pub end_columns : (tableau : SimplexTableau) → IsBestEnd tableau → 0 < column_count tableau
 end_columns tableau end = let some = (reached_shape end.0 tableau end.1.0).some_column in omega arith
 
--- there is a row for each class
-pub class_rows_stand : (classes : List Outcome) (tableau : SimplexTableau) → IsProgramEnd classes tableau → (0 < column_count tableau) × (length classes ≤ length tableau.basis)
+-- there is a row for each of a few classes
+pub class_rows_stand : (classes : List Outcome) (tableau : SimplexTableau) → IsProgramEnd classes tableau → (length classes ≤ length tableau.basis) × (length classes ≤ 98)
 class_rows_stand classes tableau (offers, is, end) =
     let count = ap (λ (xs : List Outcome). length xs) is in
+    let few = classes_few offers in
     elim end [
-      | inl first ↦ (let shape = reached_shape _ tableau first.0 in let some = shape.some_column in (omega arith, omega (arith, shape.rows, count)))
-      | inr limited ↦ (let shape = reached_shape _ tableau limited.1.0 in let some = shape.some_column in (omega arith, omega (arith, shape.rows, count)))
+      | inl first ↦ (let shape = reached_shape _ tableau first.0 in (omega (arith, shape.rows, count), omega (arith, count, few)))
+      | inr limited ↦ (let shape = reached_shape _ tableau limited.1.0 in (omega (arith, shape.rows, count), omega (arith, count, few)))
     ]
 
 -- a value as a fraction: the sizes of both numbers
