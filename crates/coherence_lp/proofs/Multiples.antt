@@ -1,11 +1,11 @@
 -- Common divisors, least common multiples, and fractions in lowest terms.
-use Rattle.std.proofs.Common.{◌≡◌, ◌≢◌, ℕ, zero, suc, ◌+◌, ◌*◌, ◌/◌, ◌<◌, ◌≤◌, List, [], ◌∷◌, ◌++◌, length, map, refl, sym, ap, ap₂, ◌∙◌, subst, arith, mul_comm, mul-pos, mul-le-mul_right, le_trans, mod-lt, ◌%◌}
-use Rattle.std.specs.Prelude.{unsigned_abs, Option, None, Some, IfSome, IfNone}
+use Rattle.std.proofs.Common.{◌≡◌, ℕ, zero, suc, ◌+◌, ◌*◌, ◌/◌, ◌<◌, ◌≤◌, [], ◌∷◌, sym, ap, ◌∙◌, subst, arith, mul_comm, mul-pos, mul-le-mul_right, le_trans, mod-lt, ◌%◌}
+use Rattle.std.specs.Prelude.{Option, None, Some, IfSome, IfNone}
 use Rattle.std.specs.Int.{◌∣◌, IsGcd}
 use Rattle.std.proofs.lemmas.Int.{unsigned_abs-mul}
-use Rattle.std.proofs.lemmas.Nat.Gcd.{dvd_trans, dvd_refl, dvd-zero, le_of_dvd, dvd_antisymm, IsGcd-swap}
-use Rattle.std.proofs.Math.Nat.{dvd-mul_left, dvd-mul_right, dvd-mul_right_of_dvd, dvd-mul_left_of_dvd, eq-one_of_dvd-one, eq-zero_of_zero-dvd, one-dvd, pos_of_dvd_of_pos, mul-div_cancel', mul-div_cancel_left, mul-dvd-mul_left, mul-dvd-mul_right, dvd_of_mul-dvd-mul_left, div-mul-le_self}
-use lib.IntN.{ℤ, pos}
+use Rattle.std.proofs.lemmas.Nat.Gcd.{dvd_trans, dvd_refl, dvd-zero, dvd_antisymm, IsGcd-swap}
+use Rattle.std.proofs.Math.Nat.{dvd-mul_left, dvd-mul_right, dvd-mul_right_of_dvd, dvd-mul_left_of_dvd, one-dvd, pos_of_dvd_of_pos, mul-div_cancel', mul-dvd-mul_left, mul-dvd-mul_right, dvd_of_mul-dvd-mul_left, div-mul-le_self}
+use lib.IntN.{pos}
 use Rattle.row_definitions.specs.Rows.{row_divisor, scaled}
 use Rattle.row_definitions.proofs.Divisors.{Divides, row_divisor_is, row_divisor_from}
 use Rattle.row_definitions.proofs.Primitives.{row_divisor-scaled}

@@ -2,15 +2,15 @@
 use Rattle.std.proofs.Common.{◌≡◌, ℕ, zero, suc, ◌+◌, ◌*◌, ◌/◌, ◌<◌, ◌≤◌, ◌⊎◌, inl, inr, List, [], ◌∷◌, ◌++◌, length, map, take, refl, sym, ap, ap₂, ◌∙◌, subst, arith, add-one}
 use Rattle.std.specs.Prelude.{slice_index_or, unsigned_abs}
 use Rattle.std.specs.Int.{◌∣◌, IsGcd}
-use Rattle.std.specs.List.{All, AllZip, enumerate_from, range_with_len}
-use Rattle.std.proofs.lemmas.List.{take_more, take_all, length-map, get_or-map}
+use Rattle.std.specs.List.{AllZip, enumerate_from, range_with_len}
+use Rattle.std.proofs.lemmas.List.{take_more, length-map, get_or-map}
 use Rattle.std.proofs.lemmas.List.FromFn.{length-enumerate_from, get_or-enumerate_from, map-range_with_len_more}
 use Rattle.std.proofs.lemmas.List.Elements.{All-nil, All-cons, All-head, All-tail, All-append, All-weaker}
 use Rattle.std.proofs.lemmas.Int.{unsigned_abs-mul}
-use Rattle.std.proofs.lemmas.Nat.Gcd.{dvd_trans, le_of_dvd}
+use Rattle.std.proofs.lemmas.Nat.Gcd.{le_of_dvd}
 use Rattle.std.proofs.Math.Nat.{one-dvd, dvd-mul_right, dvd-mul_left_of_dvd, dvd-mul_right_of_dvd, eq-zero_of_zero-dvd, mul-div_cancel', mul-div_cancel_left, mul-dvd-mul_left, dvd_of_mul-dvd-mul_left, mul-div-mul_left, zero-div, pos_of_dvd_of_pos}
 use borrow.Author.Count.{below_more}
-use lib.IntN.{ℤ, pos, ◌*ℤ◌, pos-*ℤ-pos}
+use lib.IntN.{ℤ, pos, pos-*ℤ-pos}
 use Rattle.row_definitions.specs.Rows.{row_divisor, primitive_row, scaled}
 use Rattle.row_definitions.proofs.Divisors.{Divides, row_divisor_is, gcd_exists}
 use Rattle.row_definitions.proofs.Primitives.{row_divisor-scaled, primitive_row-scaled, primitive_row-undivided}

@@ -1,22 +1,18 @@
 -- What is read of stakes over their common denominator.
-use Rattle.std.proofs.Common.{◌≡◌, ℕ, zero, suc, ◌*◌, ◌/◌, ◌<◌, ◌≤◌, ◌⊎◌, inl, inr, List, [], ◌∷◌, length, map, max, refl, sym, ap, ap₂, ◌∙◌, subst, arith}
-use Rattle.std.specs.Prelude.{Result, Ok, Err}
-use Rattle.std.specs.List.{All, AllZip, range_with_len}
+use Rattle.std.proofs.Common.{◌≡◌, ℕ, zero, suc, ◌≤◌, inl, inr, List, [], ◌∷◌, length, map, max, sym, ap, ◌∙◌, subst, arith}
+use Rattle.std.specs.Prelude.{Err}
+use Rattle.std.specs.List.{All}
 use Rattle.std.proofs.lemmas.List.{length-map}
 use Rattle.std.proofs.lemmas.List.Elements.{All-nil, All-cons, length_all_zip}
 use Rattle.row_definitions.specs.Rows.{row_divisor}
-use Rattle.pivot_definitions.specs.Tableaus.{SimplexTableau}
 use Rattle.scan_types.specs.declared.limits.TheConstants.{MOST_PART}
 use Rattle.scan_types.specs.declared.offer.Offer.{Offer}
-use Rattle.scan_types.specs.declared.outcome.Outcome.{Outcome}
-use Rattle.settlement_definitions.specs.Classes.{classes_of}
 use Rattle.finding_definitions.specs.Fractions.{Fractions}
 use Rattle.finding_definitions.specs.declared.finding.WideAt.{WideAt}
 use Rattle.finding_definitions.specs.declared.finding.WideAt.TheVariants.{Entry, Weight, Stake}
 use Rattle.judging_definitions.specs.declared.limits.TheConstants.{MOST_COMMON_DENOMINATOR}
-use Rattle.judging_definitions.specs.Stakes.{Fraction, fractional_stakes, all_numbers, multiples, in_lowest_terms, IsFittingDivisor}
-use Rattle.judging_definitions.specs.Readings.{FirstAbove, NoneAbove, Reads, ReadsWide, IsSmallDenominator, FirstWideDenominator, FirstWideStake, IsDirection, DirectionReads, AreParts, PartsRead}
-use Rattle.judging_laws.specs.Laws.{limited_stakes}
+use Rattle.judging_definitions.specs.Stakes.{Fraction, multiples, IsFittingDivisor}
+use Rattle.judging_definitions.specs.Readings.{FirstAbove, NoneAbove, ReadsWide, IsSmallDenominator, FirstWideDenominator, IsDirection, DirectionReads, AreParts, PartsRead}
 use Rattle.coherence_lp.specs.declared.fault.ReadingFault.{ReadingFault}
 use Rattle.coherence_lp.specs.declared.fault.ReadingFault.TheVariants.{Wide, WantOfMemory}
 use Rattle.coherence_lp.specs.declared.ratio.Ratio.{Ratio}

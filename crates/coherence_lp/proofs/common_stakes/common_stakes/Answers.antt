@@ -1,4 +1,4 @@
-use Rattle.std.proofs.Common.{◌≡◌, ◌∙◌, ℕ, ◌+◌, ◌*◌, ◌<◌, ◌≤◌, List, [], ◌∷◌, ◌++◌, length, map, take, ap, ap₂, sym, subst, arith, mul-pos}
+use Rattle.std.proofs.Common.{◌≡◌, ◌∙◌, ℕ, ◌+◌, ◌<◌, ◌≤◌, List, [], ◌∷◌, ◌++◌, length, map, take, ap, sym, subst, arith, mul-pos}
 use Rattle.std.specs.Prelude.{slice_index_or}
 use Rattle.std.specs.List.{All, AllZip}
 use Rattle.std.proofs.lemmas.List.{take_all, map-append}
@@ -16,7 +16,7 @@ use Rattle.judging_laws.proofs.Parts.{divisor_above_zero}
 use Rattle.judging_laws.proofs.Spread.{place}
 use Rattle.coherence_lp.specs.declared.ratio.Ratio.{Ratio}
 use Rattle.coherence_lp.specs.Ratios.{fraction_of, by_divisor, IsLowestForm, IsWholeBy, AreCommonStakes}
-use Rattle.coherence_lp.proofs.StakeLists.{LowestForms, SmallBefore, length-stakes, stake_at, whole_none, whole_step, small_more, first_wide}
+use Rattle.coherence_lp.proofs.StakeLists.{LowestForms, length-stakes, stake_at, whole_none, whole_step, small_more, first_wide}
 use Rattle.coherence_lp.proofs.common_stakes.common_stakes.Goals as goal
 
 pub loop-i-init : goal.loop-i-init

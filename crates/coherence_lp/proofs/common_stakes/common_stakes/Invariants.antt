@@ -1,4 +1,4 @@
-use Rattle.std.proofs.Common.{◌≤◌, map, take}
+use Rattle.std.proofs.Common.{◌≤◌, take}
 use Rattle.judging_definitions.specs.Stakes.{fractional_stakes}
 use Rattle.coherence_lp.specs.Ratios.{IsWholeBy}
 use Rattle.coherence_lp.proofs.StakeLists.{LowestForms, SmallBefore}

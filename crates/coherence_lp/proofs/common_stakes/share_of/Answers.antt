@@ -1,4 +1,4 @@
-use Rattle.std.proofs.Common.{◌≡◌, ◌∙◌, ℕ, suc, Option, None, Some, refl, sym, ap, ap₂, subst, rules, add-one}
+use Rattle.std.proofs.Common.{◌≡◌, ◌∙◌, ℕ, Option, refl, sym, ap, ap₂, subst, rules, add-one}
 use Rattle.judging_definitions.specs.Columns.{offer_divisor}
 use Rattle.judging_definitions.specs.Stakes.{Fraction, column_value, stake_in_column}
 use Rattle.coherence_lp.specs.Ratios.{fraction_of, by_divisor}

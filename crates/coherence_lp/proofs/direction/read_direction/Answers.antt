@@ -1,4 +1,4 @@
-use Rattle.std.proofs.Common.{◌<◌, ◌≡◌, ◌∙◌, ℕ, ◌≤◌, List, length, map, ap, ap₂, sym, subst, arith}
+use Rattle.std.proofs.Common.{◌<◌, ◌≡◌, ◌∙◌, ℕ, List, length, map, ap, sym, subst, arith}
 use Rattle.std.specs.Prelude.{Err}
 use Rattle.coherence_lp.specs.Faults.{IfWide}
 use Rattle.std.proofs.lemmas.List.{length-map}

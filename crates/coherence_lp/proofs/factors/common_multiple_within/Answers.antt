@@ -1,4 +1,4 @@
-use Rattle.std.proofs.Common.{◌≡◌, ℕ, ◌*◌, ◌/◌, ◌<◌, sym, subst}
+use Rattle.std.proofs.Common.{ℕ, ◌*◌, ◌/◌, ◌<◌, subst}
 use Rattle.std.proofs.Math.Nat.{pos_of_dvd_of_pos}
 use Rattle.coherence_lp.specs.Ratios.{IsLeastCommonMultiple}
 use Rattle.coherence_lp.proofs.Multiples.{multiple_by_divisor, one_multiple, if_same, if_none}

@@ -1,4 +1,4 @@
-use Rattle.std.proofs.Common.{◌≡◌, ◌∙◌, ℕ, length, map, ap, subst, sym, arith, pos, rules, SFits, to_z-of_z}
+use Rattle.std.proofs.Common.{◌≡◌, ◌∙◌, ℕ, length, map, ap, subst, arith, pos, rules, SFits, to_z-of_z}
 use Rattle.std.specs.Prelude.{unsigned_abs, slice_index_or}
 use Rattle.std.specs.Int.{IsGcd, w64}
 use Rattle.std.proofs.lemmas.List.{length-map, get_or-map}

@@ -1,4 +1,4 @@
-use Rattle.std.proofs.Common.{◌*◌, ◌/◌, ◌≤◌, ◌<◌, arith, rules}
+use Rattle.std.proofs.Common.{◌/◌, ◌≤◌, ◌<◌, rules}
 use Rattle.coherence_lp.proofs.Multiples.{small_product, large_product, no_product}
 use Rattle.coherence_lp.proofs.factors.product_within.Goals as goal
 

@@ -1,8 +1,8 @@
-use Rattle.std.proofs.Common.{◌≡◌, ◌∙◌, ℕ, suc, ◌+◌, ◌/◌, ◌<◌, ◌≤◌, List, [], ◌∷◌, ◌++◌, length, map, take, ap, ap₂, sym, subst, arith, add-one, rules}
+use Rattle.std.proofs.Common.{◌≡◌, ◌∙◌, ℕ, ◌+◌, ◌/◌, ◌<◌, ◌≤◌, List, [], ◌∷◌, ◌++◌, length, ap, ap₂, sym, subst, arith, add-one, rules}
 use Rattle.std.specs.Prelude.{slice_index_or}
 use Rattle.std.specs.List.{All}
 use Rattle.std.proofs.lemmas.List.{take_all, take_more, length-map}
-use Rattle.pivot_definitions.specs.Tableaus.{SimplexTableau, column_count}
+use Rattle.pivot_definitions.specs.Tableaus.{SimplexTableau}
 use Rattle.scan_types.specs.declared.limits.TheConstants.{MOST_LIMIT}
 use Rattle.scan_types.specs.declared.offer.Offer.{Offer}
 use Rattle.scan_types.specs.declared.outcome.Outcome.{Outcome}
@@ -13,7 +13,6 @@ use Rattle.judging_definitions.specs.Stakes.{Fraction, column_value, fractional_
 use Rattle.judging_laws.proofs.ClassFacts.{each_at, classes_in_range}
 use Rattle.judging_laws.proofs.Parts.{divisor_above_zero}
 use Rattle.coherence_lp.specs.Ends.{IsLimitedEnd}
-use Rattle.coherence_lp.specs.Ratios.{fraction_of}
 use Rattle.coherence_lp.proofs.StakeLists.{length-stakes}
 use Rattle.coherence_lp.proofs.LimitedStakes.{limited_columns, limited_is_best, floor_at, floor_small}
 use Rattle.coherence_lp.proofs.floors.read_floors.Goals as goal

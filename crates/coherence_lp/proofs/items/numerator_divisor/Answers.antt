@@ -1,7 +1,6 @@
-use Rattle.std.proofs.Common.{◌≡◌, ◌∙◌, ℕ, length, map, ap, subst, sym, arith, pos, ℤ}
+use Rattle.std.proofs.Common.{◌≡◌, ℕ, length, ap, subst, arith, pos, ℤ}
 use Rattle.std.specs.Prelude.{slice_index_or, unsigned_abs}
-use Rattle.std.specs.Int.{IsGcd}
-use Rattle.std.proofs.lemmas.List.{length-map, get_or-map, get_or_default}
+use Rattle.std.proofs.lemmas.List.{length-map, get_or-map}
 use Rattle.coherence_lp.specs.declared.ratio.Ratio.{Ratio}
 use Rattle.coherence_lp.proofs.Divisors.{IsGcdBelow, gcd_more, gcd_row}
 use Rattle.coherence_lp.proofs.StakeLists.{any_ratio, numerators}

@@ -1,5 +1,4 @@
 use Rattle.std.specs.Prelude.{slice_index_or}
-use Rattle.coherence_lp.specs.declared.ratio.Ratio.{Ratio}
 use Rattle.coherence_lp.proofs.Divisors.{IsGcdBelow}
 use Rattle.coherence_lp.proofs.StakeLists.{any_ratio}
 use Rattle.coherence_lp.proofs.items.numerator_divisor.Given as goal

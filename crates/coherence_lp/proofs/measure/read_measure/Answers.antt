@@ -1,4 +1,4 @@
-use Rattle.std.proofs.Common.{List, [], ◌∷◌, rules, ◌≡◌, ◌∙◌, ℕ, ◌+◌, ◌<◌, ◌≤◌, ◌++◌, length, filter, take, map, ap, ap₂, sym, subst, subst₂, arith}
+use Rattle.std.proofs.Common.{List, [], ◌∷◌, rules, ◌≡◌, ◌∙◌, ℕ, ◌<◌, ◌≤◌, ◌++◌, length, filter, ap, ap₂, sym, subst, arith}
 use Rattle.std.specs.Prelude.{unsigned_abs, slice_index, slice_index_or, zip}
 use Rattle.std.specs.Int.{◌∣◌}
 use Rattle.std.proofs.lemmas.List.{take_all}

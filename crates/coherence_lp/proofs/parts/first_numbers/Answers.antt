@@ -1,4 +1,4 @@
-use Rattle.std.proofs.Common.{◌≡◌, ◌∙◌, ℕ, ◌+◌, [], ◌∷◌, ◌++◌, ap, sym, arith}
+use Rattle.std.proofs.Common.{◌≡◌, ◌∙◌, ◌+◌, [], ◌∷◌, ◌++◌, ap, sym, arith}
 use Rattle.std.specs.List.{range_with_len}
 use Rattle.coherence_lp.proofs.StakeLists.{range_more}
 use Rattle.coherence_lp.proofs.parts.first_numbers.Goals as goal

@@ -1,18 +1,17 @@
-use Rattle.std.proofs.Common.{◌≡◌, ◌∙◌, ℕ, ◌≤◌, List, length, map, ap, ap₂, sym, subst, arith}
-use Rattle.std.specs.List.{All, AllZip, range_with_len}
-use Rattle.std.proofs.lemmas.List.FromFn.{length-map-range_with_len}
+use Rattle.std.proofs.Common.{◌≡◌, ◌∙◌, ℕ, List, length, ap, ap₂, sym, subst, arith}
+use Rattle.std.specs.List.{range_with_len}
 use Rattle.pivot_definitions.proofs.Built.{length-range}
 use Rattle.scan_types.specs.declared.limits.TheConstants.{MOST_PART}
 use Rattle.pivot_definitions.specs.Tableaus.{SimplexTableau}
 use Rattle.scan_types.specs.declared.offer.Offer.{Offer}
 use Rattle.scan_types.specs.declared.outcome.Outcome.{Outcome}
 use Rattle.settlement_definitions.specs.Classes.{classes_of}
-use Rattle.judging_definitions.specs.Stakes.{Fraction, fractional_stakes, all_numbers}
+use Rattle.judging_definitions.specs.Stakes.{fractional_stakes, all_numbers}
 use Rattle.judging_definitions.specs.Readings.{NoneAbove}
 use Rattle.judging_laws.specs.Laws.{limited_stakes}
 use Rattle.coherence_lp.specs.declared.ratio.Ratio.{Ratio}
 use Rattle.coherence_lp.specs.Ratios.{AreCommonStakes}
-use Rattle.coherence_lp.proofs.LimitedStakes.{limited_columns, limited_is_best}
+use Rattle.coherence_lp.proofs.LimitedStakes.{limited_columns}
 use Rattle.coherence_lp.proofs.StakeLists.{length-stakes}
 use Rattle.coherence_lp.proofs.StakeReadings.{all_stand, ratio_count, parts_read, parts_fault}
 use Rattle.coherence_lp.proofs.parts.read_parts.Goals as goal

@@ -1,6 +1,5 @@
-use Rattle.std.proofs.Common.{◌≡◌, ℕ, ◌*◌, ◌/◌, ◌<◌, sym, subst}
+use Rattle.std.proofs.Common.{ℕ, ◌/◌, ◌<◌, sym, subst}
 use Rattle.std.proofs.Math.Nat.{pos_of_dvd_of_pos}
-use Rattle.judging_definitions.specs.Stakes.{Fraction}
 use Rattle.coherence_lp.specs.Ratios.{fraction_of, by_divisor, IsLowestForm}
 use Rattle.coherence_lp.proofs.Multiples.{lowest_by_number, one_denominator}
 use Rattle.coherence_lp.proofs.ratios.ratio_by.Goals as goal

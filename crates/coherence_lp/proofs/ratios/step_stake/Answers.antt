@@ -1,4 +1,4 @@
-use Rattle.std.proofs.Common.{◌≡◌, ℕ, ◌<◌, ◌≤◌, sym, subst, arith}
+use Rattle.std.proofs.Common.{ℕ, subst, arith}
 use Rattle.std.proofs.lemmas.Nat.Gcd.{le_of_dvd}
 use Rattle.coherence_lp.specs.Ratios.{fraction_of, by_divisor, IsLeastCommonMultiple}
 use Rattle.coherence_lp.proofs.Multiples.{one_denominator}
