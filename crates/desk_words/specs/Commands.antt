@@ -22,9 +22,13 @@ abbrev pub pivots_of : Option Text → Option ℕ
 pivots_of None = Some DEFAULT_PIVOTS
 pivots_of (Some word) = number_in 1 MOST_PIVOTS word
 
--- 1 to so many names
+-- so many feeds may be named
+abbrev pub is_feed_count : ℕ → Bool
+is_feed_count n = nat_le 1 n && nat_le n MOST_FEEDS
+
+-- the names, if they are not too many
 abbrev pub few_enough : List Text → Option (List Text)
-few_enough names = if nat_le 1 (length names) && nat_le (length names) MOST_FEEDS then Some names else None
+few_enough names = if is_feed_count (length names) then Some names else None
 
 abbrev pub feeds_of : Option (List Text) → Option (List Text)
 feeds_of names = option_and_then few_enough names

@@ -2,7 +2,7 @@
 ghost use Rattle.std.specs.Prelude.{◌≡◌, ℕ, List, Some, None, codes, option_map, map, string_bytes, IfOk, IfErr, IsErrOf, MatchResult};
 ghost use Rattle.clap.specs.Words.{Text, all_of, first_of, found_of, rows_of, subcommand_of, subcommand_rows_of};
 ghost use Rattle.desk_words.specs.Program.{program};
-ghost use Rattle.desk_words.specs.Commands.{Answers, FoundIn, IsInRange, command_of, feeds_of, once_of, pivots_of};
+ghost use Rattle.desk_words.specs.Commands.{Answers, FoundIn, IsInRange, command_of, feeds_of, is_feed_count, once_of, pivots_of};
 ghost use Rattle.desk_words.specs.WellFormed.{AreOnceWords};
 
 use crate::command::{Command, FeedNames, WordsFault};
@@ -31,16 +31,27 @@ fn asked_pivots(matches: &ArgMatches) -> Option<u32>
     let Some(word) = matches.get_str("pivots") else {
         return Some(DEFAULT_PIVOTS);
     };
-    let number = read_number(word, 1, u64::from(MOST_PIVOTS))?;
+    let Some(number) = read_number(word, 1, MOST_PIVOTS as u64) else {
+        return None;
+    };
     Some(number as u32)
+}
+
+/// Whether so many feeds may be named.
+fn is_feed_count(count: usize) -> bool
+    ensures { result ≡ is_feed_count count }
+{
+    1 <= count && count <= MOST_FEEDS
 }
 
 /// The names of feeds, if they are no more than `MOST_FEEDS`.
 fn named_feeds<'m, 'a>(matches: &'m ArgMatches<'a>) -> Option<&'m [&'a str]>
     ensures { option_map (λ names. map (λ name. name.now) names.now) result ≡ feeds_of (all_of (codes "FEED") (rows_of (found_of matches.now))) }
 {
-    let names = matches.get_strs("FEED")?;
-    if 1 <= names.len() && names.len() <= MOST_FEEDS {
+    let Some(names) = matches.get_strs("FEED") else {
+        return None;
+    };
+    if is_feed_count(names.len()) {
         Some(names)
     } else {
         None

@@ -1,0 +1,5 @@
+pub mod NumberWords
+pub mod FeedCounts
+pub mod Ranges
+pub mod FeedWords
+pub mod OnceWords
