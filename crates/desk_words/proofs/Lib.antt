@@ -1,3 +1,4 @@
+pub mod Answers
 pub mod NumberWords
 pub mod FeedCounts
 pub mod Ranges

@@ -1,14 +1,14 @@
 -- Words that are numbers, by their parts.
-use Rattle.std.proofs.Common.{◌≡◌, ℕ, ◌+◌, ◌^◌, ◌<◌, ◌≤◌, Bool, true, false, cond, leb, ◌&&◌, List, [], ◌∷◌, length, Option, Some, None, Result, Ok, Err, refl, sym, ap, subst, inl, inr, ◌∙◌, arith}
-use Rattle.std.specs.Prelude.{option_and_then}
+use Rattle.std.proofs.Common.{◌≡◌, ℕ, ◌^◌, ◌<◌, ◌≤◌, Bool, true, false, cond, leb, ◌&&◌, List, [], ◌∷◌, length, Some, None, Result, Err, not, refl, sym, ap, subst, inl, inr, ◌∙◌, arith}
+use Rattle.std.specs.Prelude.{◌==◌, option_and_then}
 use Rattle.std.specs.Char.{is_ascii_digit}
 use Rattle.std.specs.List.{list_all}
 use Rattle.std.specs.Result.{OkIff}
 use Rattle.std.specs.Str.{all_ascii_digits}
 use Rattle.std.specs.Str.Parse.{ParsesUnsigned, digits_value}
-use Rattle.std.proofs.lemmas.Bool.{cases_lt, le-leb, leb-true, lt-leb}
+use Rattle.std.proofs.lemmas.Bool.{cases_lt, eqb-true, le-leb, leb-true, lt-leb}
 use Rattle.std.proofs.lemmas.Str.Parse.{IsNumeralModel, numerals_by_value, tells_all_ascii_digits, parse_digits}
-use Rattle.number_definitions.specs.Readings.{number_of}
+use Rattle.desk_words.specs.WellFormed.{is_positional_word}
 use Rattle.desk_words.specs.Numbers.{is_number_word, number_in, number_within}
 
 pub each_digit : (word : List ℕ) → list_all is_ascii_digit word ≡ all_ascii_digits word
@@ -20,15 +20,6 @@ pub number_word_by_digits : (word : List ℕ) → 1 ≤ length word → length w
 number_word_by_digits word some few =
     let within : (leb 1 (length word) && leb (length word) 20) ≡ true = rw (le-leb 1 (length word) some, le-leb (length word) 20 few) refl in
     each_digit word ∙ ap (λ b. b && all_ascii_digits word) (sym within)
-
-pub no_digits : (word : List ℕ) → length word < 1 → false ≡ is_number_word word
-no_digits word none = rw (lt-leb 1 (length word) none) refl
-
-pub too_many_digits : (word : List ℕ) → 20 < length word → false ≡ is_number_word word
-too_many_digits word many = elim (leb 1 (length word)) as (λ b. false ≡ (b && leb (length word) 20 && all_ascii_digits word)) [
-  | true ↦ rw (lt-leb (length word) 20 many) refl
-  | false ↦ refl
-]
 
 both : (a b : Bool) → (a && b) ≡ true → (a ≡ true) × (b ≡ true)
 both true b h = (refl, h)
@@ -73,3 +64,22 @@ word_too_large {E} least most word r e is fits word_is h =
       | inl below ↦ absurd (refused (omega (arith, some), below))
       | inr above ↦ omega (arith, above, fits)
     ]
+
+digit_first : (byte : ℕ) (bytes : List ℕ) → all_ascii_digits (byte ∷ bytes) ≡ true → is_positional_word (byte ∷ bytes) ≡ true
+digit_first byte bytes e = go (byte == 45) refl
+  where
+    low : 48 ≤ byte
+    low = leb-true 48 byte (both (leb 48 byte) (leb byte 57) (both (is_ascii_digit byte) (all_ascii_digits bytes) e).0).0
+
+    go : (b : Bool) → (byte == 45) ≡ b → not b ≡ true
+    go true is = absurd (omega (arith, low, eqb-true byte 45 is))
+    go false is = refl
+
+-- a number word is not empty and begins with a digit
+pub number_is_positional : (number : List ℕ) (least most n : ℕ) → number_in least most number ≡ Some n → is_positional_word number ≡ true
+number_is_positional [] least most n e = absurd (cc)
+number_is_positional (byte ∷ bytes) least most n e = go (is_number_word (byte ∷ bytes)) refl
+  where
+    go : (b : Bool) → is_number_word (byte ∷ bytes) ≡ b → is_positional_word (byte ∷ bytes) ≡ true
+    go true is = digit_first byte bytes (digits_of_word (byte ∷ bytes) is)
+    go false is = (let none = no_number least most (byte ∷ bytes) is in absurd (cc))

@@ -19,4 +19,3 @@ mod reading;
 pub use command::{Command, FeedNames, WordsFault};
 pub use numbers::MOST_NUMBER_DIGITS;
 pub use reading::read_words;
-

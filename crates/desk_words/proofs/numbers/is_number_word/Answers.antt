@@ -1,6 +1,6 @@
-use Rattle.std.proofs.Common.{arith, ◌∙◌, ◌≤◌, ◌<◌, length, rules}
+use Rattle.std.proofs.Common.{arith, ◌∙◌, ◌≤◌, length}
 use Rattle.std.proofs.lemmas.Bool.Decides.{nat_tests}
-use Rattle.desk_words.proofs.NumberWords.{no_digits, number_word_by_digits, too_many_digits}
+use Rattle.desk_words.proofs.NumberWords.{number_word_by_digits}
 use Rattle.desk_words.proofs.numbers.is_number_word.Goals as goal
 
 pub returns : goal.returns

@@ -1,4 +1,4 @@
-use Rattle.std.proofs.Common.{arith, ◌∙◌, ◌≡◌, true, sym, rules}
+use Rattle.std.proofs.Common.{arith, ◌≡◌, true, rules}
 use Rattle.desk_words.specs.Numbers.{is_number_word}
 use Rattle.desk_words.proofs.NumberWords.{word_too_large}
 use Rattle.desk_words.proofs.numbers.read_number.Goals as goal

@@ -1,4 +1,4 @@
-use Rattle.std.proofs.Common.{ap, codes, ◌∙◌, ◌≡◌, rules}
+use Rattle.std.proofs.Common.{ap, codes, ◌∙◌}
 use Rattle.clap.specs.Words.{found_of}
 use Rattle.clap.proofs.WalkLemmas.{first_value-rows}
 use Rattle.desk_words.specs.Commands.{pivots_of}

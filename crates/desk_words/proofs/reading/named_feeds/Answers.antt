@@ -1,4 +1,4 @@
-use Rattle.std.proofs.Common.{ap, sym, codes, ◌∙◌, rules}
+use Rattle.std.proofs.Common.{ap, sym, codes, ◌∙◌}
 use Rattle.clap.specs.Words.{found_of}
 use Rattle.clap.proofs.WalkLemmas.{raw_values-rows}
 use Rattle.desk_words.specs.Commands.{feeds_of}
