@@ -3,4 +3,8 @@ pub mod NumberWords
 pub mod FeedCounts
 pub mod Ranges
 pub mod FeedWords
+pub mod FaultFree
+pub mod TakenWords
+pub mod Causes
+pub mod Parsed
 pub mod OnceWords

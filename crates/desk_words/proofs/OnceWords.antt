@@ -2,9 +2,9 @@
 use Rattle.std.proofs.Common.{◌≡◌, ◌∙◌, ℕ, ◌≤◌, Bool, true, false, cond, ◌&&◌, List, [], ◌∷◌, ◌++◌, length, Option, Some, None, refl, sym, ap, ap₂, inl, inr, arith}
 use Rattle.std.specs.Prelude.{codes, is_some, option_and_then}
 use Rattle.std.specs.List.{fold, list_all}
-use Rattle.clap.specs.Walk.{Row, Text, Walk, finished, is_empty, is_pending, nothing_held, option, reading_by, settled, settled_rows, walk, walk_from, walked}
-use Rattle.clap.specs.Simple.{built, entered, names_of}
-use Rattle.clap.specs.Words.{App, fault_of, subcommand_of}
+use Rattle.clap.specs.Walk.{Row, Text, Walk, finished, is_pending, nothing_held, option, reading_by, settled, settled_rows, walk, walk_from, walked}
+use Rattle.clap.specs.Simple.{entered, names_of}
+use Rattle.clap.specs.Words.{fault_of, subcommand_of}
 use Rattle.clap.specs.Kinds.{Kinds, or_else}
 use Rattle.clap.specs.Faults.{check_fault, defaults_fault, entered_fault, level_fault, settle_fault, turn_fault, walk_fault}
 use Rattle.clap.specs.declared.parser.matches.ValueSource.TheVariants.{CommandLine}
@@ -17,6 +17,7 @@ use Rattle.desk_words.proofs.NumberWords.{number_is_positional}
 use Rattle.desk_words.specs.declared.command.Command.{Command}
 use Rattle.desk_words.specs.declared.command.Command.TheVariants.{Once}
 use Rattle.desk_words.proofs.FeedCounts.{few}
+use Rattle.desk_words.proofs.TakenWords.{fault_free_taken, whole}
 use Rattle.desk_words.proofs.FeedWords.{before_feeds, feed_filled, feeds_fault, feeds_walk, first_feed, first_feed_fault, in_feeds, many_values, once_built, once_rules, pivots_filled, plain_met, plain_no_fault, texts_pass}
 
 -- what `clap` keeps of the option
@@ -156,9 +157,6 @@ end_asks (Some number) feed feeds = refl
 
 -- ---- the program
 
-abbrev whole : App
-whole = built program
-
 abbrev by_program : Kinds → Walk → Kinds
 by_program faults w = or_else faults (or_else (entered_fault whole w.stopped) (or_else (settle_fault [] false w.held)
     (or_else (defaults_fault (settled [] w.held).rows []) (check_fault whole.top (finished [] w.held) (is_some (entered whole w.stopped))))))
@@ -199,7 +197,7 @@ spelled options number pivots feed feeds leads value plain most =
     let asked : option_and_then subcommand_asks (subcommand_of program (codes "once" ∷ rest)) ≡ Some (Once pivots (feed ∷ feeds)) =
     program_asks rest ∙ ap (λ (w : Walk). once_of (finished once_rules w.held)) walks ∙ end_asks number feed feeds
     ∙ ap₂ (λ (p : Option ℕ) (names : Option (List Text)). option_and_then (λ n. option_and_then (λ fs. Some (Once n fs)) names) p) value (few (feed ∷ feeds) (omega arith) most) in
-    ap₂ (λ (b : Bool) (o : Option Command). cond b o None) (ap is_empty no_fault) asked
+    ap₂ (λ (b : Bool) (o : Option Command). cond b o None) (fault_free_taken (codes "once" ∷ rest) no_fault) asked
 
 pub once_words : (words : List Text) (pivots : ℕ) (feeds : List Text) → AreOnceWords words pivots feeds → command_of words ≡ Some (Once pivots feeds)
 once_words words pivots [] h = absurd (omega (arith, h.some_feeds))

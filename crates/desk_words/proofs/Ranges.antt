@@ -4,10 +4,10 @@ use Rattle.std.specs.Prelude.{option_and_then, codes}
 use Rattle.std.specs.Str.{bytes_eq}
 use Rattle.std.proofs.lemmas.Bool.{leb-true}
 use Rattle.number_definitions.specs.Readings.{number_of}
-use Rattle.clap.specs.Words.{Row, Text, all_of, first_of, subcommand_of}
+use Rattle.clap.specs.Words.{Row, Text, first_of, subcommand_of}
 use Rattle.desk_words.specs.Numbers.{number_within}
 use Rattle.desk_words.specs.Program.{program}
-use Rattle.desk_words.specs.Commands.{Answers, IsInRange, command_of, feeds_of, few_enough, is_taken, once_of, pivots_of, subcommand_asks}
+use Rattle.desk_words.specs.Commands.{Answers, IsInRange, command_of, few_enough, is_taken, names_in, once_of, pivots_in, pivots_of, subcommand_asks}
 use Rattle.desk_words.specs.declared.command.Command.{Command}
 use Rattle.desk_words.specs.declared.command.Command.TheVariants.{Once}
 use Rattle.desk_words.specs.declared.command.WordsFault.{WordsFault}
@@ -45,18 +45,13 @@ few_within names feeds e = go (leb 1 (length names)) (leb (length names) 8) refl
     go true false low high e = absurd (cc)
     go false b low high e = absurd (cc)
 
-feeds_within : (names : Option (List Text)) (feeds : List Text) → feeds_of names ≡ Some feeds → (1 ≤ length feeds) × (length feeds ≤ 8)
-feeds_within None feeds e = absurd (cc)
-feeds_within (Some names) feeds e = few_within names feeds e
-
 once_within : (rows : List Row) (command : Command) → once_of rows ≡ Some command → IsInRange command
 once_within rows command e =
-    let word = first_of (codes "pivots") rows in
-    let names = all_of (codes "FEED") rows in
-    let first = bound (pivots_of word) (λ pivots. option_and_then (λ feeds. Some (Once pivots feeds)) (feeds_of names)) command e in
-    let second = bound (feeds_of names) (λ feeds. Some (Once first.0 feeds)) command first.2 in
-    let p = pivots_within word first.0 first.1 in
-    let f = feeds_within names second.0 second.1 in
+    let names = names_in rows in
+    let first = bound (pivots_in rows) (λ pivots. option_and_then (λ feeds. Some (Once pivots feeds)) (few_enough names)) command e in
+    let second = bound (few_enough names) (λ feeds. Some (Once first.0 feeds)) command first.2 in
+    let p = pivots_within (first_of (codes "pivots") rows) first.0 first.1 in
+    let f = few_within names second.0 second.1 in
     let same : Once first.0 second.0 ≡ command = cc in
     subst IsInRange same (p.0, p.1, f.0, f.1)
 

@@ -1,9 +1,8 @@
 -- What words ask for.
-use Rattle.std.specs.Prelude.{ℕ, ◌≡◌, ◌≤◌, Bool, ◌&&◌, nat_le, true, false, List, length, Option, Some, None, option_and_then, codes, Result, Ok, Err, if◌then◌else◌}
+use Rattle.std.specs.Prelude.{ℕ, ◌≡◌, ◌≤◌, ◌⊎◌, Bool, ◌&&◌, nat_le, true, false, List, [], length, unwrap_or, Option, Some, None, option_and_then, codes, Result, Ok, Err, if◌then◌else◌}
 use Rattle.std.specs.Str.{bytes_eq}
 use Rattle.number_definitions.specs.Readings.{◌>>=◌}
-use Rattle.clap.specs.Walk.{is_empty}
-use Rattle.clap.specs.Words.{Row, Text, all_of, first_of, fault_of, subcommand_of, subcommand_rows_of}
+use Rattle.clap.specs.Words.{Row, Text, all_of, first_of, subcommand_of, subcommand_rows_of, takes}
 use Rattle.clap.specs.declared.parser.matches.ArgMatches.{ArgMatches}
 use Rattle.scan_types.specs.declared.limits.TheConstants.{DEFAULT_PIVOTS, MOST_FEEDS, MOST_PIVOTS}
 use Rattle.desk_words.specs.Numbers.{number_in}
@@ -13,9 +12,9 @@ use Rattle.desk_words.specs.declared.command.Command.TheVariants.{Once}
 use Rattle.desk_words.specs.declared.command.WordsFault.{WordsFault}
 use Rattle.desk_words.specs.declared.command.WordsFault.TheVariants.{NoCommand, WantOfMemory}
 
--- `clap` takes the words: by its own definition there is no kind of fault that a parse of them has
+-- `clap` takes the words, by its own definition of what a command takes
 abbrev pub is_taken : List Text → Bool
-is_taken words = is_empty (fault_of program words)
+is_taken words = takes program words
 
 -- the pivots that the option asks for, or the default if it is not given; none if its value is no number in range
 abbrev pub pivots_of : Option Text → Option ℕ
@@ -30,14 +29,18 @@ is_feed_count n = nat_le 1 n && nat_le n MOST_FEEDS
 abbrev pub few_enough : List Text → Option (List Text)
 few_enough names = if is_feed_count (length names) then Some names else None
 
-abbrev pub feeds_of : Option (List Text) → Option (List Text)
-feeds_of names = option_and_then few_enough names
+-- the names that were found, if any
+abbrev pub names_in : List Row → List Text
+names_in rows = unwrap_or (all_of (codes "FEED") rows) []
+
+abbrev pub pivots_in : List Row → Option ℕ
+pivots_in rows = pivots_of (first_of (codes "pivots") rows)
 
 -- `once`, by what was found behind it
 abbrev pub once_of : List Row → Option Command
 once_of rows = do
-  pivots ← pivots_of (first_of (codes "pivots") rows)
-  feeds ← feeds_of (all_of (codes "FEED") rows)
+  pivots ← pivots_in rows
+  feeds ← few_enough (names_in rows)
   Some (Once pivots feeds)
 
 -- the subcommand that was found, with what was found behind it
@@ -47,6 +50,15 @@ subcommand_asks found = if bytes_eq found.0 (codes "once") then once_of found.1 
 -- the command that the words give, if `clap` takes them, each number word is in form and range and not too many feeds are named
 abbrev pub command_of : List Text → Option Command
 command_of words = if is_taken words then option_and_then subcommand_asks (subcommand_of program words) else None
+
+-- behind `once` the number of pivots is out of form or range, or not 1 to so many feeds are named
+abbrev pub HasBadValue : List Row → Type 0
+HasBadValue rows = (pivots_in rows ≡ None) ⊎ (is_feed_count (length (names_in rows)) ≡ false)
+
+-- the words are no command: `clap` does not take them, or a value behind the subcommand is bad
+abbrev pub IsNoCommand : List Text → Type 0
+IsNoCommand words = (is_taken words ≡ false)
+    ⊎ ((rows : List Row) × (subcommand_of program words ≡ Some (codes "once", rows)) × HasBadValue rows)
 
 -- the answer for what the words give, or no memory is left
 abbrev pub Answers : Option Command → Result Command WordsFault → Type 0

@@ -19,3 +19,6 @@ mod reading;
 pub use command::{Command, FeedNames, WordsFault};
 pub use numbers::MOST_NUMBER_DIGITS;
 pub use reading::read_words;
+
+#[cfg(test)]
+mod tests;

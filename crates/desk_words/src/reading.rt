@@ -1,8 +1,7 @@
 //! From the words to a command.
-ghost use Rattle.std.specs.Prelude.{◌≡◌, ℕ, List, Some, None, codes, option_map, map, string_bytes, IfOk, IfErr, IsErrOf, MatchResult};
-ghost use Rattle.clap.specs.Words.{Text, all_of, first_of, found_of, rows_of, subcommand_of, subcommand_rows_of};
-ghost use Rattle.desk_words.specs.Program.{program};
-ghost use Rattle.desk_words.specs.Commands.{Answers, FoundIn, IsInRange, command_of, feeds_of, is_feed_count, once_of, pivots_of};
+ghost use Rattle.std.specs.Prelude.{◌≡◌, ◌⊎◌, ℕ, List, option_map, map, string_bytes, IfOk, IsErrOf, MatchResult};
+ghost use Rattle.clap.specs.Words.{Text, found_of, rows_of};
+ghost use Rattle.desk_words.specs.Commands.{Answers, FoundIn, IsInRange, IsNoCommand, command_of, few_enough, is_feed_count, names_in, once_of, pivots_in};
 ghost use Rattle.desk_words.specs.WellFormed.{AreOnceWords};
 
 use crate::command::{Command, FeedNames, WordsFault};
@@ -26,7 +25,7 @@ fn copied(alloc: Global, names: &[&str]) -> Result<FeedNames, AllocError>
 
 /// The number of pivots that was asked for, or the default.
 fn asked_pivots(matches: &ArgMatches) -> Option<u32>
-    ensures { result ≡ pivots_of (first_of (codes "pivots") (rows_of (found_of matches.now))) }
+    ensures { result ≡ pivots_in (rows_of (found_of matches.now)) }
 {
     let Some(word) = matches.get_str("pivots") else {
         return Some(DEFAULT_PIVOTS);
@@ -46,7 +45,7 @@ fn is_feed_count(count: usize) -> bool
 
 /// The names of feeds, if they are no more than `MOST_FEEDS`.
 fn named_feeds<'m, 'a>(matches: &'m ArgMatches<'a>) -> Option<&'m [&'a str]>
-    ensures { option_map (λ names. map (λ name. name.now) names.now) result ≡ feeds_of (all_of (codes "FEED") (rows_of (found_of matches.now))) }
+    ensures { option_map (λ names. map (λ name. name.now) names.now) result ≡ few_enough (names_in (rows_of (found_of matches.now))) }
 {
     let Some(names) = matches.get_strs("FEED") else {
         return None;
@@ -113,7 +112,10 @@ fn read(alloc: Global, words: &[String]) -> Result<Command, WordsFault>
 /// Fails with `NoCommand` if the words miss any of this, and with `WantOfMemory` if no memory is left.
 pub fn read_words(alloc: Global, words: &[String]) -> Result<Command, WordsFault>
     ensures command { IfOk result (λ command. command_of (map string_bytes words.now) ≡ Some command) }
-    ensures no_command { IsErrOf result WordsFault.NoCommand → command_of (map string_bytes words.now) ≡ None }
+    // `NoCommand` comes just if the words have a cause for it, unless no memory is left.
+    ensures no_command { IsErrOf result WordsFault.NoCommand → IsNoCommand (map string_bytes words.now) }
+    ensures no_command_due { IsNoCommand (map string_bytes words.now) →
+        MatchResult result (λ _. ⊥) (λ fault. (fault ≡ WordsFault.NoCommand) ⊎ (fault ≡ WordsFault.WantOfMemory)) }
     // Words that are well formed are never refused.
     ensures well_formed { (pivots : ℕ) (feeds : List Text) → AreOnceWords (map string_bytes words.now) pivots feeds →
         MatchResult result (λ command. command ≡ Command.Once pivots feeds) (λ fault. fault ≡ WordsFault.WantOfMemory) }
