@@ -8,3 +8,4 @@ pub mod Stood
 pub mod Lists
 pub mod Picks
 pub mod Start
+pub mod Copies

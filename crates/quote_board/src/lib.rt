@@ -13,6 +13,7 @@ mod books;
 mod held;
 mod judge;
 mod part;
+mod shared;
 
 pub use board::Board;
 pub use board_definitions::{Entry, Event, FeedStop, Key, Law, Pick, Pin};
