@@ -8,3 +8,4 @@ pub mod TakenWords
 pub mod Causes
 pub mod Parsed
 pub mod OnceWords
+pub mod WorkedLines

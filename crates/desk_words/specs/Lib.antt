@@ -3,3 +3,4 @@ pub mod Program
 pub mod Commands
 pub mod WellFormed
 pub mod Laws
+pub mod WorkedLines

@@ -4,7 +4,7 @@
 //! - `command`: what the words ask for, and why they are refused.
 //! - `numbers`: words that are numbers.
 //! - `reading`: `read_words`, from the words to a command.
-//! - `laws`: words that are never refused.
+//! - `laws`: words that are never refused, why words are no command, and lines of words with what they give.
 //!
 //! A command joins by its subcommand in `program`, its variant of `Command`, and its arm in `reading`.
 //! `read_words` takes memory for `clap`'s command and its matches, and for a copy of each name: O(bytes of the words).
