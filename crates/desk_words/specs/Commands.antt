@@ -21,11 +21,11 @@ abbrev pub pivots_of : Option Text → Option ℕ
 pivots_of None = Some DEFAULT_PIVOTS
 pivots_of (Some word) = number_in 1 MOST_PIVOTS word
 
--- so many feeds may be named
+-- so many feeds may be named: 1 to `MOST_FEEDS`
 abbrev pub is_feed_count : ℕ → Bool
 is_feed_count n = nat_le 1 n && nat_le n MOST_FEEDS
 
--- the names, if they are not too many
+-- the names, if so many may be named
 abbrev pub few_enough : List Text → Option (List Text)
 few_enough names = if is_feed_count (length names) then Some names else None
 
@@ -47,11 +47,11 @@ once_of rows = do
 abbrev pub subcommand_asks : Text × List Row → Option Command
 subcommand_asks found = if bytes_eq found.0 (codes "once") then once_of found.1 else None
 
--- the command that the words give, if `clap` takes them, each number word is in form and range and not too many feeds are named
+-- the command that the words give, if `clap` takes them, the number of pivots is in form and range, and so many feeds may be named
 abbrev pub command_of : List Text → Option Command
 command_of words = if is_taken words then option_and_then subcommand_asks (subcommand_of program words) else None
 
--- behind `once` the number of pivots is out of form or range, or not 1 to so many feeds are named
+-- behind `once` the number of pivots is out of form or range, or too few or too many feeds are named
 abbrev pub HasBadValue : List Row → Type 0
 HasBadValue rows = (pivots_in rows ≡ None) ⊎ (is_feed_count (length (names_in rows)) ≡ false)
 

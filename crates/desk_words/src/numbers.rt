@@ -14,7 +14,7 @@ fn are_digits(word: &[u8]) -> bool
     word.iter().all(|byte| byte.is_ascii_digit())
 }
 
-/// Whether the word is 1 to `MOST_NUMBER_DIGITS` decimal digits.
+// Whether the word is 1 to `MOST_NUMBER_DIGITS` decimal digits.
 fn is_number_word(word: &[u8]) -> bool
     ensures { result ≡ is_number_word word.now }
 {
@@ -24,7 +24,7 @@ fn is_number_word(word: &[u8]) -> bool
     are_digits(word)
 }
 
-/// The number that the word writes, if it is a number word and the number lies from `least` to `most`.
+// The number that the word writes, if it is a number word and the number lies from `least` to `most`.
 pub(crate) fn read_number(word: &str, least: u64, most: u64) -> Option<u64>
     ensures { result ≡ number_in least most word.now }
 {

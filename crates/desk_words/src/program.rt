@@ -7,7 +7,7 @@ ghost use Rattle.desk_words.specs.Program.{bare_program, feed_words, once_comman
 use clap::{Arg, Command};
 use std::alloc::{AllocError, Global};
 
-/// The option `--pivots N`.
+// The option `--pivots N`.
 fn pivots_option<'a>(alloc: Global) -> Arg<'a>
     ensures rule { rule_of result ≡ pivots_option }
     ensures local { result.global ≡ false }
@@ -15,7 +15,7 @@ fn pivots_option<'a>(alloc: Global) -> Arg<'a>
     Arg::new(alloc, "pivots").long("pivots")
 }
 
-/// The names of feeds, one or more.
+// The names of feeds, one or more.
 fn feed_words<'a>(alloc: Global) -> Arg<'a>
     ensures rule { rule_of result ≡ feed_words }
     ensures local { result.global ≡ false }
@@ -23,7 +23,7 @@ fn feed_words<'a>(alloc: Global) -> Arg<'a>
     Arg::new(alloc, "FEED").num_args(1..).required(true)
 }
 
-/// The command `once`.
+// The command `once`.
 fn once_command<'a>(alloc: Global) -> Result<Command<'a>, AllocError>
     ensures { IfOk result (λ command. (shape_of command ≡ once_command) × ((fields_of command).has_globals ≡ false)) }
 {
@@ -32,7 +32,7 @@ fn once_command<'a>(alloc: Global) -> Result<Command<'a>, AllocError>
         .arg(feed_words(alloc))
 }
 
-/// The program with no command yet: one is required, there is no help, and the words begin behind the program's name.
+// The program with no command yet: one is required, there is no help, and the words begin behind the program's name.
 fn bare_program<'a>(alloc: Global) -> Command<'a>
     ensures { app_of result ≡ bare_program }
 {
@@ -43,7 +43,7 @@ fn bare_program<'a>(alloc: Global) -> Command<'a>
         .subcommand_required(true)
 }
 
-/// The program with its commands. Each command stands in a line here.
+// The program with its commands. Each command stands in a line here.
 pub(crate) fn program<'a>(alloc: Global) -> Result<Command<'a>, AllocError>
     ensures { IfOk result (λ command. app_of command ≡ program) }
 {

@@ -12,7 +12,7 @@ use clap::error::ErrorKind;
 use scan_types::{DEFAULT_PIVOTS, MOST_FEEDS, MOST_PIVOTS};
 use std::alloc::{AllocError, Global};
 
-/// A copy of each name.
+// A copy of each name.
 fn copied(alloc: Global, names: &[&str]) -> Result<FeedNames, AllocError>
     ensures { IfOk result (λ feeds. feeds ≡ map (λ name. name.now) names.now) }
 {
@@ -23,7 +23,7 @@ fn copied(alloc: Global, names: &[&str]) -> Result<FeedNames, AllocError>
     Ok(FeedNames::new(copies))
 }
 
-/// The number of pivots that was asked for, or the default.
+// The number of pivots that was asked for, or the default.
 fn asked_pivots(matches: &ArgMatches) -> Option<u32>
     ensures { result ≡ pivots_in (rows_of (found_of matches.now)) }
 {
@@ -36,14 +36,14 @@ fn asked_pivots(matches: &ArgMatches) -> Option<u32>
     Some(number as u32)
 }
 
-/// Whether so many feeds may be named.
+// Whether so many feeds may be named.
 fn is_feed_count(count: usize) -> bool
     ensures { result ≡ is_feed_count count }
 {
     1 <= count && count <= MOST_FEEDS
 }
 
-/// The names of feeds, if they are no more than `MOST_FEEDS`.
+// The names of feeds, if 1 to `MOST_FEEDS` are named.
 fn named_feeds<'m, 'a>(matches: &'m ArgMatches<'a>) -> Option<&'m [&'a str]>
     ensures { option_map (λ names. map (λ name. name.now) names.now) result ≡ few_enough (names_in (rows_of (found_of matches.now))) }
 {
@@ -57,7 +57,7 @@ fn named_feeds<'m, 'a>(matches: &'m ArgMatches<'a>) -> Option<&'m [&'a str]>
     }
 }
 
-/// The command `once` with the words behind it.
+// The command `once` with the words behind it.
 fn read_once(alloc: Global, matches: &ArgMatches) -> Result<Command, WordsFault>
     ensures { Answers (once_of (rows_of (found_of matches.now))) result }
 {
@@ -73,7 +73,7 @@ fn read_once(alloc: Global, matches: &ArgMatches) -> Result<Command, WordsFault>
     }
 }
 
-/// What `clap` finds in the words.
+// What `clap` finds in the words.
 fn found_in<'a>(alloc: Global, words: &'a [String]) -> Result<ArgMatches<'a>, WordsFault>
     ensures { FoundIn (map string_bytes words.entry.now) result }
 {
@@ -90,7 +90,7 @@ fn found_in<'a>(alloc: Global, words: &'a [String]) -> Result<ArgMatches<'a>, Wo
     }
 }
 
-/// The command that the words give.
+// The command that the words give.
 fn read(alloc: Global, words: &[String]) -> Result<Command, WordsFault>
     ensures { Answers (command_of (map string_bytes words.now)) result }
 {
