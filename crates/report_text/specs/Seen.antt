@@ -1,5 +1,5 @@
 -- The feeds as a report sees them, and what stands on a match after all their accepted lines.
-use Rattle.std.specs.Prelude.{ℕ, Bool, IsTrue, ◌&&◌, List, [], reverse, find, Option, None, option_map, option_and_then, slice_get}
+use Rattle.std.specs.Prelude.{ℕ, ◌≡◌, Bool, true, ◌&&◌, List, [], reverse, find, Option, None, option_map, option_and_then, slice_get}
 use Rattle.std.specs.List.{filter_map, flat_map, list_any, range_with_len}
 use Rattle.std.specs.Option.{option_map_or}
 use Rattle.std.specs.Str.{bytes_eq}
@@ -29,12 +29,12 @@ lines_of feeds feed = option_map_or (λ seen. seen.accepted) (slice_get feeds fe
 
 -- the line quotes the match
 abbrev pub quotes : List ℕ → Accepted → Bool
-quotes match_name line = bytes_eq line.match_name match_name && is_quote line.change
+quotes match_name line = is_quote line.change && bytes_eq line.match_name match_name
 
 -- a quote of the match is among the accepted lines of some feed
 pub record IsQuoted (feeds : List SeenFeed) (match_name : List ℕ) : Type 0 where
   pub feed : ℕ
-  pub quoted : IsTrue (list_any (quotes match_name) (lines_of feeds feed))
+  pub quoted : list_any (quotes match_name) (lines_of feeds feed) ≡ true
 
 -- the offer that a feed of this number makes by the change, under the rule of its book: a quote's, and none by a withdrawal
 abbrev pub change_offer : ℕ → Option VoidRule → Selection → Change → Option Offer
