@@ -9,3 +9,5 @@ pub mod Lists
 pub mod Picks
 pub mod Start
 pub mod Copies
+pub mod ShortHistories
+pub mod CheckedFeeds

@@ -14,6 +14,8 @@ mod held;
 mod judge;
 mod part;
 mod shared;
+#[cfg(test)]
+mod tests;
 
 pub use board::Board;
 pub use board_definitions::{Entry, Event, FeedStop, Key, Law, Pick, Pin};
