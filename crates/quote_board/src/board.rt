@@ -149,7 +149,7 @@ impl<W: Law> Board<W> {
 
     /// A board without entries, for as many feeds as there are rules, by feed number.
     ///
-    /// Takes the room for one `Ended` a feed.
+    /// Takes the room for one `Ended` a feed. Fails only if no memory is left.
     pub fn new(alloc: Global, law: W, rules: &[VoidRule]) -> Result<Board<W>, WantOfMemory>
         requires some { 1 ≤ length rules.now }
         requires few { length rules.now ≤ MOST_FEEDS }
@@ -232,7 +232,7 @@ impl<W: Law> Board<W> {
         Ok(())
     }
 
-    /// Says that the feed has ended, and how. It adds one entry, whose room was taken in `new`.
+    /// Says that the feed has ended, and how. It adds one entry, whose room was taken in `new`. Constant time; takes no memory.
     pub fn end_feed(&mut self, caller: u8, feed: u8, stop: FeedStop)
         requires open { IsOpenFeed self.old.fixed.rules self.old.history caller feed }
         requires stop { stop ≢ BadHeader }
@@ -288,6 +288,8 @@ impl<W: Law> Board<W> {
     }
 
     /// Copies offers of the pinned sheet, from a place on, and returns how many: as many as there are and as fit. It adds nothing.
+    ///
+    /// One look-up of the pin, and O(copied). Takes no memory.
     pub fn read(&self, pin: &Pin, from: usize, out: &mut [Offer]) -> usize
         requires live { IsLive self.now.history pin.now }
         requires some { 1 ≤ length out.old }
@@ -316,6 +318,8 @@ impl<W: Law> Board<W> {
     }
 
     /// Files what was found of the sheet of a live pin, which ends the pin. It adds one entry, whose room was taken with the pin.
+    ///
+    /// One look-up of the pin. Takes no memory, and gives back that of the pinned sheet.
     pub fn file(&mut self, pin: Pin, finding: Finding)
         requires live { IsLive self.old.history pin }
         requires allowed { W.allows self.old.fixed.law (sheet self.old.fixed.rules self.old.history pin.version pin.match_name) finding }
@@ -331,6 +335,8 @@ impl<W: Law> Board<W> {
     }
 
     /// Ends a live pin without a finding. It adds one entry, whose room was taken with the pin.
+    ///
+    /// One look-up of the pin. Takes no memory, and gives back that of the pinned sheet.
     pub fn release(&mut self, pin: Pin)
         requires { IsLive self.old.history pin }
         ensures added { self.new ≡ with_entry self.old pin.caller (event.Released pin.version) }
@@ -341,7 +347,7 @@ impl<W: Law> Board<W> {
         add(&mut self.history, pin.caller, Event::Released { version });
     }
 
-    /// The history, which is legal.
+    /// The history, which is legal, from the first entry on. Constant time.
     pub fn history(&self) -> &[Entry]
         ensures value { result.now ≡ self.now.history }
         ensures legal { HasLegalHistory W.allows self.now }

@@ -15,7 +15,7 @@ use std::collections::BTreeMap;
 pub(crate) struct Slot {
     /// The number of the feed.
     pub(crate) feed: u8,
-    /// The number of the selection, 0 to 142.
+    /// The number of the selection, below `MOST_SELECTIONS`.
     pub(crate) number: u8,
 }
 
