@@ -270,11 +270,15 @@ fn sheets_stay(alloc: Global, board: &mut CheckedBoard) -> Result<bool, WantOfMe
     Ok(board.first_other(alloc, &rows)? == rows.len())
 }
 
+/// Whether the value may move between threads is for the compiler to say.
+fn may_move<T: Send>(_value: &T) {}
+
 #[test]
 fn each_version_keeps_its_sheet(rt: HostRuntime) -> Result<(), Fail> {
     let alloc = rt.alloc();
     let names = (name(&rt, b"m1"), name(&rt, b"m2"));
     let mut board = CheckedBoard::new(alloc, names, &[VoidRule::Void, VoidRule::Score])?;
+    may_move(&board);
     assert!(rt; changes(alloc, &mut board)?);
     assert!(rt; due_in_turn(alloc, &mut board)?);
     assert!(rt; sheets_stay(alloc, &mut board)?);
