@@ -1,5 +1,5 @@
 -- Each feed that a board was made for has a rule.
-use Rattle.std.proofs.Common.{ℕ, ◌≡◌, ◌<◌, List, [], ◌∷◌, length, refl, sym, ap, ◌∙◌, true, zero, suc, arith}
+use Rattle.std.proofs.Common.{ℕ, ◌≡◌, ◌<◌, List, [], ◌∷◌, length, refl, ap, ◌∙◌, true, zero, suc, arith}
 use Rattle.std.specs.Prelude.{Option, IsSome, slice_get}
 use Rattle.std.specs.Option.{is_some}
 use Rattle.scan_types.specs.declared.rule.VoidRule.{VoidRule}

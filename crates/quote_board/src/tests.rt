@@ -270,7 +270,7 @@ fn sheets_stay(alloc: Global, board: &mut CheckedBoard) -> Result<bool, WantOfMe
     Ok(board.first_other(alloc, &rows)? == rows.len())
 }
 
-/// Whether the value may move between threads is for the compiler to say.
+// Compiles only if the value may move between threads.
 fn may_move<T: Send>(_value: &T) {}
 
 #[test]
