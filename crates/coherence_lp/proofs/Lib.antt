@@ -5,3 +5,6 @@ pub mod Sizes
 pub mod Picked
 pub mod Ranges
 pub mod WrittenPrograms
+pub mod EndFacts
+pub mod Divisors
+pub mod ClassWeights

