@@ -36,7 +36,7 @@ pub(crate) fn weighed_need(weight: u64, outcome: Outcome) -> i128
     requires { weight ≤ MOST_PART }
     ensures exact { result ≡ pos weight *ℤ need_at outcome }
     ensures at_least { pos 0 ≤ℤ result }
-    ensures at_most { result ≤ℤ pos (2 ^ 60) }
+    ensures at_most { result ≤ℤ pos MOST_PART }
 {
     match outcome {
         Outcome::Full(_, _) => i128::from(weight),

@@ -16,10 +16,11 @@ use crate::words::{begins_with, short, word};
 use finding_definitions::{Finding, Stage, WideAt};
 use std::alloc::Global;
 
-/// Reads the text of a finding, all of it. Counts and numbers must be within the limits for reading; nothing
-/// else of the finding is tested.
+/// Reads the text of a finding, all of it. The counts must be at most `MOST_OFFERS` and `MOST_MEASURE_ENTRIES`; stakes,
+/// pivots, rows, columns and places must fit 32 bits, the other numbers 64. Nothing else of the finding is tested.
 ///
-/// O(text); takes memory for the lists of the finding.
+/// `BadAt` if the text is no such text, `WantOfMemory` only if no memory is left. The form is `finding_text` and the limits
+/// are `IsReadable` of `finding_definitions`. O(text); takes memory for the lists of the finding.
 pub fn read_finding(alloc: Global, text: &[u8]) -> Result<Finding, FindingFault>
     // What is read is written so.
     ensures read_then_put { IfOk result (λ finding. IsReadable finding × (finding_text finding ≡ text.now)) }

@@ -12,8 +12,10 @@ use finding_definitions::{Finding, Measure, Parts, Stage, Stakes, WideAt};
 use itoa::Buffer;
 use scan_types::Outcome;
 
-/// Writes the one text of a finding. At `Err` some of it was written, from its front on, and not all.
-/// Takes no memory.
+/// Writes the one text of a finding, which is `finding_text` of `finding_definitions`, without a line feed. At `Err` a write
+/// failed, and some of the text was written, from its front on, and not all.
+///
+/// O(text), with a write or more for each field. Takes no memory of its own.
 pub fn put_finding<K: Sink>(finding: &Finding, sink: &mut K) -> Result<(), WriteFailed>
     ensures written { OnOk result (Appends (K.written sink.old) (K.written sink.new) (finding_text finding.now)) }
     ensures cut_short { OnErr result (AppendsPrefix (K.written sink.old) (K.written sink.new) (finding_text finding.now)) }

@@ -1,19 +1,17 @@
 -- The weights of the classes, class by class.
-use Rattle.std.proofs.Common.{◌≡◌, ◌≢◌, ℕ, suc, ◌+◌, ◌<◌, ◌≤◌, ◌==◌, Bool, true, false, not, cond, List, [], ◌∷◌, ◌++◌, length, map, filter, take, refl, sym, ap, ap₂, ◌∙◌, subst, arith}
+use Rattle.std.proofs.Common.{◌≡◌, ℕ, ◌+◌, ◌<◌, ◌≤◌, ◌==◌, Bool, not, List, [], ◌∷◌, ◌++◌, length, filter, take, ap, ◌∙◌, subst, arith}
 use Rattle.std.specs.Prelude.{unsigned_abs, slice_index, slice_index_or, zip}
 use Rattle.std.specs.Int.{◌∣◌}
-use Rattle.std.specs.List.{All, range_with_len}
 use Rattle.std.proofs.lemmas.List.{length-map, get_or-map, get_or_default}
 use Rattle.std.proofs.lemmas.List.FromFn.{length-map-range_with_len, get_or-map-range_with_len}
 use Rattle.std.proofs.lemmas.List.Elements.{filter_more}
 use Rattle.std.proofs.lemmas.Slice.Zip.{get_or-zip, length-zip}
-use lib.IntN.{ℤ, pos}
+use lib.IntN.{pos}
 use Rattle.row_definitions.specs.Rows.{entry, row_divisor, primitive_row, divided}
 use Rattle.row_definitions.proofs.Divisors.{row_divisor_is, Divides-entry}
 use Rattle.pivot_definitions.specs.Tableaus.{SimplexTableau, multiplier_of}
-use Rattle.scan_types.specs.declared.limits.TheConstants.{MOST_PART}
 use Rattle.scan_types.specs.declared.outcome.Outcome.{Outcome}
-use Rattle.judging_definitions.specs.Readings.{class_weights, weighted_classes, FirstAbove, NoneAbove}
+use Rattle.judging_definitions.specs.Readings.{class_weights, NoneAbove}
 use Rattle.judging_laws.proofs.Weights.{multipliers, weight_divisor}
 
 pub length-weights : (classes : List Outcome) (tableau : SimplexTableau) → length (class_weights classes tableau) ≡ length classes

@@ -1,15 +1,15 @@
 -- The greatest common divisor of numbers by their places, and of a row.
-use Rattle.std.proofs.Common.{◌≡◌, ◌≢◌, ℕ, zero, suc, ◌+◌, ◌*◌, ◌/◌, ◌<◌, ◌≤◌, List, [], ◌∷◌, length, map, refl, sym, ap, ◌∙◌, subst, arith}
+use Rattle.std.proofs.Common.{◌≡◌, ◌≢◌, ℕ, zero, suc, ◌+◌, ◌*◌, ◌/◌, ◌<◌, List, [], ◌∷◌, length, sym, ap, ◌∙◌, subst, arith}
 use Rattle.std.specs.Prelude.{unsigned_abs}
 use Rattle.std.specs.Int.{◌∣◌, IsGcd}
-use Rattle.std.proofs.lemmas.Int.{ints, unsigned_abs-mul}
+use Rattle.std.proofs.lemmas.Int.{unsigned_abs-mul}
 use Rattle.std.proofs.lemmas.Nat.Gcd.{dvd_trans, dvd-zero}
 use Rattle.std.proofs.Math.Nat.{eq-zero_of_zero-dvd, mul-div_cancel_left}
 use borrow.Author.Count.{below_more}
 use lib.IntN.{ℤ, pos}
 use Rattle.row_definitions.specs.Rows.{entry, row_divisor, divided}
 use Rattle.row_definitions.proofs.Numbers.{divided-exact, divided-zero, zero_from_size}
-use Rattle.row_definitions.proofs.Divisors.{Divides, Divides-entry, IsRowGcd, row_divisor_from}
+use Rattle.row_definitions.proofs.Divisors.{Divides, Divides-entry, row_divisor_from}
 
 -- the number divides each of the first numbers
 abbrev pub DividesBelow : (ℕ → ℕ) → ℕ → ℕ → Type 0

@@ -1,13 +1,11 @@
 -- What is known of the tableau at the best end of a run.
-use Rattle.std.proofs.Common.{◌≡◌, ◌↔◌, ℕ, ◌+◌, ◌<◌, ◌≤◌, inl, inr, List, length, refl, sym, ap, ap₂, ◌∙◌, subst, arith}
+use Rattle.std.proofs.Common.{◌≡◌, ◌↔◌, ℕ, ◌<◌, ◌≤◌, inl, inr, List, length, sym, ap, ◌∙◌, arith}
 use Rattle.std.specs.Prelude.{Option, None, Some, MatchOption, unsigned_abs, ◌==◌}
 use Rattle.std.specs.List.{position}
 use Rattle.std.proofs.lemmas.Int.{ints}
 use lib.IntN.{ℤ, pos, negsuc}
 use lib.Signed.{◌<ℤ◌}
-use Rattle.scan_types.specs.declared.offer.Offer.{Offer}
 use Rattle.scan_types.specs.declared.outcome.Outcome.{Outcome}
-use Rattle.settlement_definitions.specs.Classes.{classes_of}
 use Rattle.pivot_definitions.specs.Programs.{LinearProgram}
 use Rattle.pivot_definitions.specs.Tableaus.{SimplexTableau, column_count, entry_at, right_side, IsValueOf}
 use Rattle.pivot_definitions.specs.Duality.{IsReached}
@@ -15,9 +13,8 @@ use Rattle.pivot_definitions.proofs.Reached.{reached}
 use Rattle.pivot_definitions.proofs.KeptFeasible.{values_are_not_negative}
 use Rattle.judging_definitions.specs.Stakes.{Fraction, value_in_row, column_value}
 use Rattle.judging_definitions.specs.Readings.{HasLevelOne}
-use Rattle.judging_laws.specs.Laws.{IsAtBest}
 use Rattle.judging_laws.proofs.ClassFacts.{classes_few}
-use Rattle.coherence_lp.specs.Ends.{IsBestEnd, IsFirstEnd, IsLimitedEnd, IsProgramEnd}
+use Rattle.coherence_lp.specs.Ends.{IsBestEnd, IsProgramEnd}
 
 -- a tableau of a run has its program's columns and rows
 pub record HasShape (program : LinearProgram) (tableau : SimplexTableau) : Type 0 where

@@ -8,3 +8,8 @@ pub mod WrittenPrograms
 pub mod EndFacts
 pub mod Divisors
 pub mod ClassWeights
+pub mod Multiples
+pub mod StakeLists
+pub mod LimitedStakes
+pub mod StakeReadings
+pub mod Fitting

@@ -1,3 +1,4 @@
 pub mod Values
 pub mod Readings
 pub mod Spellings
+pub mod Printed

@@ -3,7 +3,7 @@ use Rattle.std.specs.Prelude.{◌≡◌, ◌≤◌, ℕ, ℤ, pos, negsuc, ◌�
 use Rattle.std.specs.Int.Signed.{le_z}
 use Rattle.std.proofs.lemmas.Bool.{leb-true}
 use Rattle.std.proofs.lemmas.Float.{T_from_true}
-use Rattle.scan_types.specs.declared.limits.TheConstants.{MOST_LIMIT}
+use Rattle.scan_types.specs.declared.limits.TheConstants.{LEAST_ODDS, MOST_LIMIT, MOST_ODDS}
 use Rattle.scan_types.specs.declared.odds.Odds.{Odds}
 use Rattle.scan_types.specs.declared.line.HandicapLine.{HandicapLine}
 use Rattle.scan_types.specs.declared.line.TotalLine.{TotalLine}
@@ -35,12 +35,12 @@ within_signed_from least most z e =
     (record { le = T_from_true (le_z least z) parts.0 }, record { le = T_from_true (le_z z most) parts.1 })
 
 -- the odds of so many thousandths, from 1.001 to 1000.000
-abbrev pub odds_if : (n : ℕ) (in_range : Bool) → is_within 1001 1000000 n ≡ in_range → Option Odds
-odds_if n true is = let range = within_from 1001 1000000 n is in Some (record { thousandths = n; at_least = range.0; at_most = range.1 })
+abbrev pub odds_if : (n : ℕ) (in_range : Bool) → is_within LEAST_ODDS MOST_ODDS n ≡ in_range → Option Odds
+odds_if n true is = let range = within_from LEAST_ODDS MOST_ODDS n is in Some (record { thousandths = n; at_least = range.0; at_most = range.1 })
 odds_if n false is = None
 
 unfoldable pub odds_with : ℕ → Option Odds
-odds_with n = odds_if n (is_within 1001 1000000 n) refl
+odds_with n = odds_if n (is_within LEAST_ODDS MOST_ODDS n) refl
 
 -- the handicap line of so many quarters, from -5.00 to 5.00
 abbrev pub handicap_if : (z : ℤ) (in_range : Bool) → is_within_signed (negsuc 19) (pos 20) z ≡ in_range → Option HandicapLine

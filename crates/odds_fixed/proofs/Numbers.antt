@@ -1,7 +1,6 @@
 -- Digits read one after another.
-use Rattle.std.proofs.Common.{◌≡◌, ℕ, suc, zero, ◌+◌, ◌*◌, ◌^◌, ◌-◌, ◌<◌, ◌≤◌, Bool, true, false, cond, leb, ◌&&◌, List, [], ◌∷◌, length, take, drop, get_or, Option, Some, None, option_map, option_and_then, IsSome, IfSome, ◌↔◌, ◌≢◌, refl, sym, ap, ◌∙◌, arith}
-use Rattle.std.proofs.lemmas.Bool.{leb-true, eqb-true, false≢true}
-use Rattle.std.proofs.lemmas.Bool.Decides.{nat_tests}
+use Rattle.std.proofs.Common.{◌≡◌, ℕ, suc, zero, ◌+◌, ◌*◌, ◌^◌, ◌-◌, ◌<◌, ◌≤◌, Bool, true, false, cond, leb, ◌&&◌, List, [], ◌∷◌, length, take, drop, get_or, Option, Some, None, option_map, option_and_then, ◌≢◌, refl, sym, ap, ◌∙◌, arith}
+use Rattle.std.proofs.lemmas.Bool.{leb-true, eqb-true}
 use Rattle.std.proofs.lemmas.Int.Digits.{digits_value_more}
 use Rattle.std.proofs.lemmas.List.{length-take-le}
 use Rattle.std.proofs.lemmas.List.Sums.{passes_at_first}
@@ -10,7 +9,6 @@ use Rattle.std.proofs.lemmas.Str.{digit_value_digit}
 use Rattle.std.proofs.lemmas.Str.Parse.{IsNumeralModel, numerals_by_value, tells_all_ascii_digits, digits_value_short}
 use Rattle.std.specs.Char.{is_ascii_digit, digit_value}
 use Rattle.std.specs.List.{slice_split, position, position_or_len}
-use Rattle.scan_types.specs.declared.odds.Odds.{Odds}
 use Rattle.odds_fixed.proofs.Splits.{Found, found, split_found, split_none}
 use Rattle.std.specs.Str.{all_ascii_digits}
 use Rattle.std.specs.Str.Parse.{digits_value}
@@ -35,7 +33,7 @@ number_not_digits most text h =
     sym (ap (λ b. cond ((leb 1 (length text) && leb (length text) most) && b) (Some (digits_value 10 text)) None) h
     ∙ ap (λ b. cond b (Some (digits_value 10 text)) None) (and_false (leb 1 (length text) && leb (length text) most)))
 
-digits_by_value : IsNumeralModel (λ ds. all_ascii_digits ds ≡ true) (digits_value 10)
+pub digits_by_value : IsNumeralModel (λ ds. all_ascii_digits ds ≡ true) (digits_value 10)
 digits_by_value = numerals_by_value (λ ds. all_ascii_digits ds ≡ true) tells_all_ascii_digits
 
 -- so many digits write a number below that power of ten

@@ -10,7 +10,8 @@ use scan_types::MOST_LIMIT;
 /// The least stake limit, in minor units: a limit of 0 would offer nothing.
 const LEAST_LIMIT: u32 = 1;
 
-/// A stake limit in minor units: 1 to 9 digits, from 1 to `MOST_LIMIT`.
+/// A stake limit in minor units: 1 to 9 digits, from 1 to `MOST_LIMIT`. `BadLimit` for any other form, `LimitRange` for
+/// any other number. The rule is `limit_of` of `number_definitions`. O(text); takes no memory.
 pub fn read_limit(text: &[u8]) -> Result<u32, LimitFault>
     ensures value { result ≡ limit_or_fault text.now }
     ensures range { IfOk result IsLimitRange }

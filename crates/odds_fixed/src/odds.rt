@@ -35,7 +35,9 @@ fn read_thousandths(text: &[u8]) -> Option<u32>
     }
 }
 
-/// Decimal odds: 1 to 4 digits, and then nothing or a point and 1 to 3 digits, from 1.001 to 1000.000.
+/// Decimal odds: 1 to 4 digits, and then nothing or a point and 1 to 3 digits, in thousandths from `LEAST_ODDS` to
+/// `MOST_ODDS`. `BadOdds` for any other form, `OddsRange` for any other number. The rule is `thousandths_of` of
+/// `number_definitions`. O(text); takes no memory.
 pub fn read_odds(text: &[u8]) -> Result<Odds, OddsFault>
     ensures { result ≡ odds_or_fault text.now }
 {

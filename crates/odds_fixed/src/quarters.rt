@@ -52,8 +52,9 @@ fn goals_below(text: &[u8]) -> Option<i16>
     Some(-(read_goals(text)? as i16))
 }
 
-/// A line, in quarters of a goal: a sign or none, 1 or 2 digits, and then nothing or a point and `0`, `5`, `00`, `25`, `50` or `75`.
-/// `None` for any other text.
+/// A line in quarters of a goal, from -399 to 399: a sign or none, 1 or 2 digits, and then nothing or a point and `0`, `5`,
+/// `00`, `25`, `50` or `75`. `None` for any other text. Which of them are lines of a market, `HandicapLine::new` and
+/// `TotalLine::new` say. The rule is `quarters_of` of `number_definitions`. O(text); takes no memory.
 pub fn read_quarters(text: &[u8]) -> Option<i16>
     ensures { result ≡ quarters_of text.now }
 {

@@ -8,3 +8,7 @@ pub mod Stood
 pub mod Lists
 pub mod Picks
 pub mod Start
+pub mod Copies
+pub mod WholeSheets
+pub mod ShortHistories
+pub mod CheckedFeeds

@@ -1,8 +1,8 @@
 -- A match's offers by their slots are its sheet.
-use Rattle.std.proofs.Common.{ℕ, ◌≡◌, ◌≤◌, ◌<◌, inl, inr, ⊎_elim, List, [], ◌∷◌, refl, sym, ap, ◌∙◌, Some, None, arith, subst, zero, suc}
+use Rattle.std.proofs.Common.{ℕ, ◌≡◌, ◌≤◌, ◌<◌, inl, inr, ⊎_elim, List, [], ◌∷◌, length, refl, sym, ap, ◌∙◌, Some, None, arith, subst, zero, suc}
 use Rattle.std.specs.Prelude.{◌⊎◌, Option, slice_get, option_and_then, IfSome}
 use Rattle.std.specs.Option.{option_map_or}
-use Rattle.std.specs.BTreeMap.{values, is_at, IsOrdered}
+use Rattle.std.specs.BTreeMap.{BTreeMap, values, is_at, IsOrdered}
 use Rattle.std.specs.List.{AllByRecursion}
 use Rattle.std.specs.List.Sorted.{IsStrictlySortedBy}
 use Rattle.std.specs.Map.{keys_of, values_of}
@@ -24,13 +24,18 @@ use Rattle.scan_types.specs.Selections.{selection_number}
 use Rattle.scan_types.specs.Offers.{IsBelow}
 use Rattle.board_definitions.specs.declared.event.Entry.{Entry}
 use Rattle.board_definitions.specs.declared.key.TheConstants.{SELECTIONS}
-use Rattle.board_definitions.specs.Sheets.{standing, standing_sheet}
+use Rattle.board_definitions.specs.Sheets.{standing, standing_sheet, sheet}
 use Rattle.board_definitions.proofs.Orders.{IsIn, AreBelow, same_lists}
 use Rattle.board_definitions.proofs.Placed.{IsPlaced, standing_placed, some_injective}
 use Rattle.board_definitions.proofs.Rising.{sheet_rises, in_sheet, sheet_has}
 use Rattle.quote_board.specs.declared.book.Slot.{Slot}
 use Rattle.quote_board.specs.declared.book.Book.{Book}
-use Rattle.quote_board.specs.Books.{slot_cmp, offer_in}
+use Rattle.std.specs.Str.{bytes_eq}
+use Rattle.std.proofs.lemmas.List.{take_all}
+use Rattle.indexmap.specs.IndexMap.{IndexMap, get as entry_of}
+use Rattle.quote_board.specs.declared.held.Held.{Held}
+use Rattle.quote_board.specs.Kept.{Agrees}
+use Rattle.quote_board.specs.Books.{slot_cmp, offer_in, offers_on}
 
 pub slots_total : IsTotalOrder slot_cmp
 slots_total = then_total (on_total (λ s. s.feed) nat_cmp_total) (on_total (λ s. s.number) nat_cmp_total)
@@ -131,3 +136,9 @@ pub offers_are_sheet : (rules : List (Option VoidRule)) (h : List Entry) (m : Li
     option_map_or (λ book. values book.offers) there [] ≡ standing_sheet rules h m
 offers_are_sheet rules h m None ordered same = blank_sheet rules h m same
 offers_are_sheet rules h m (Some book) ordered same = book_sheet rules h m book ordered same
+
+-- the offers kept of a match are its sheet at the present number of entries
+pub newest_sheet : {S : Type 0} (rules : List (Option VoidRule)) (h : List Entry) (books : IndexMap (List ℕ) Book S) (waiting : BTreeMap ℕ (List ℕ)) (pins : BTreeMap ℕ Held) (m : List ℕ) →
+    Agrees rules h books waiting pins → IfSome (entry_of bytes_eq books m) (λ book. IsOrdered slot_cmp book.offers) → offers_on books m ≡ sheet rules h (length h) m
+newest_sheet rules h books waiting pins m agrees ordered =
+    offers_are_sheet rules h m (entry_of bytes_eq books m) ordered (agrees.offers m) ∙ ap (λ (xs : List Entry). standing_sheet rules xs m) (sym (take_all (length h) h (omega arith)))

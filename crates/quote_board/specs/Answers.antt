@@ -9,11 +9,17 @@ use Rattle.board_definitions.specs.declared.pin.Pick.{Pick}
 use Rattle.board_definitions.specs.declared.pin.Pick.TheVariants as pick
 use Rattle.board_definitions.specs.Entries.{rule_of}
 use Rattle.board_definitions.specs.Pins.{IsDue, IsLongestDue, HaveAllEnded, has_ended}
+use Rattle.board_definitions.specs.Legal.{IsLegal}
+use Rattle.finding_definitions.specs.declared.finding.Finding.{Finding}
 use Rattle.quote_board.specs.Views.{BoardView, with_entry}
 
 -- each feed has the rule of its number, and there are no further feeds
 abbrev pub AreRulesOf : List VoidRule → List (Option VoidRule) → Type 0
 AreRulesOf given rules = (feed : ℕ) → rule_of rules feed ≡ slice_get given feed
+
+-- the history is legal under the board's rules and its law
+abbrev pub HasLegalHistory : {W : Type 0} → (W → List Offer → Finding → Type 0) → BoardView W → Type 0
+HasLegalHistory allows board = IsLegal board.fixed.rules (allows board.fixed.law) board.history
 
 -- the pin that an entry of this caller and match makes
 abbrev pub next_pin : List Entry → ℕ → List ℕ → Pin

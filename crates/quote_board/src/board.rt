@@ -9,10 +9,10 @@ ghost use Rattle.quote_board.specs.Answers.{AreRulesOf, IsCopied, IsEmptyPick};
 ghost use Rattle.quote_board.specs.Books.{IsFirstWaiting};
 ghost use Rattle.board_definitions.specs.Pins.{IsLive, HasNoPin};
 ghost use Rattle.board_definitions.specs.Sheets.{sheet, offer_with};
-ghost use Rattle.board_definitions.specs.Legal.{IsLegal, IsOpenFeed, MayQuote, MayWithdraw};
+ghost use Rattle.board_definitions.specs.Legal.{IsOpenFeed, MayQuote, MayWithdraw};
 
 use crate::book::{Book, Slot};
-use crate::books::{copy_sheet, quote_on, settle, withdraw_on};
+use crate::books::{copy_newest, copy_sheet, quote_on, settle, withdraw_on};
 use crate::held::Held;
 use crate::part::BoardPart;
 use board_definitions::{Entry, Event, FeedStop, Key, Law, Pick, Pin};
@@ -145,11 +145,11 @@ fn copy_part(offers: &[Offer], from: usize, out: &mut [Offer]) -> usize
 
 impl<W: Law> Board<W> {
     ghost use Rattle.quote_board.specs.Views.{with_entry};
-    ghost use Rattle.quote_board.specs.Answers.{IsPick, next_pin};
+    ghost use Rattle.quote_board.specs.Answers.{HasLegalHistory, IsPick, next_pin};
 
     /// A board without entries, for as many feeds as there are rules, by feed number.
     ///
-    /// Takes the room for one `Ended` a feed.
+    /// Takes the room for one `Ended` a feed. Fails only if no memory is left.
     pub fn new(alloc: Global, law: W, rules: &[VoidRule]) -> Result<Board<W>, WantOfMemory>
         requires some { 1 ≤ length rules.now }
         requires few { length rules.now ≤ MOST_FEEDS }
@@ -186,6 +186,7 @@ impl<W: Law> Board<W> {
         requires { MayQuote self.old.fixed.rules self.old.history caller key limit line }
         ensures added { OnOk result (self.new ≡ with_entry self.old caller (event.Quoted key odds limit line)) }
         ensures unchanged { OnErr result (self.new ≡ self.old) }
+        ensures legal { HasLegalHistory W.allows self.new }
     {
         let offer = offer_for(&self.fixed.rules, &key, odds, limit);
         let place = self.history.len() as u64;
@@ -216,6 +217,7 @@ impl<W: Law> Board<W> {
         requires { MayWithdraw self.old.fixed.rules self.old.history caller key line }
         ensures added { OnOk result (self.new ≡ with_entry self.old caller (event.Withdrawn key line)) }
         ensures unchanged { OnErr result (self.new ≡ self.old) }
+        ensures legal { HasLegalHistory W.allows self.new }
     {
         let place = self.history.len() as u64;
         self.history.reserve(self.pins.len() + self.open_feeds + 1)?;
@@ -230,11 +232,12 @@ impl<W: Law> Board<W> {
         Ok(())
     }
 
-    /// Says that the feed has ended, and how. It adds one entry, whose room was taken in `new`.
+    /// Says that the feed has ended, and how. It adds one entry, whose room was taken in `new`. Constant time; takes no memory.
     pub fn end_feed(&mut self, caller: u8, feed: u8, stop: FeedStop)
         requires open { IsOpenFeed self.old.fixed.rules self.old.history caller feed }
         requires stop { stop ≢ BadHeader }
-        ensures { self.new ≡ with_entry self.old caller (event.Ended feed stop) }
+        ensures added { self.new ≡ with_entry self.old caller (event.Ended feed stop) }
+        ensures legal { HasLegalHistory W.allows self.new }
     {
         self.open_feeds -= 1;
         add(&mut self.history, caller, Event::Ended { feed, stop });
@@ -248,6 +251,7 @@ impl<W: Law> Board<W> {
         ensures pinned { IfOk result (λ pin. pin ≡ next_pin self.old.history caller match_name) }
         ensures added { OnOk result (self.new ≡ with_entry self.old caller (event.Pinned match_name)) }
         ensures unchanged { OnErr result (self.new ≡ self.old) }
+        ensures legal { HasLegalHistory W.allows self.new }
     {
         let version = self.history.len() as u64;
         let offers = copy_sheet(&self.books, self.alloc, match_name)?;
@@ -275,6 +279,7 @@ impl<W: Law> Board<W> {
         requires { HasNoPin self.old.history caller }
         ensures pick { IfOk result (IsPick self.old caller self.new) }
         ensures unchanged { OnErr result (self.new ≡ self.old) }
+        ensures legal { HasLegalHistory W.allows self.new }
     {
         match longest_waiting(&self.waiting) {
             Some(match_name) => Ok(Pick::Pinned(self.pin_named(caller, match_name)?)),
@@ -283,6 +288,8 @@ impl<W: Law> Board<W> {
     }
 
     /// Copies offers of the pinned sheet, from a place on, and returns how many: as many as there are and as fit. It adds nothing.
+    ///
+    /// One look-up of the pin, and O(copied). Takes no memory.
     pub fn read(&self, pin: &Pin, from: usize, out: &mut [Offer]) -> usize
         requires live { IsLive self.now.history pin.now }
         requires some { 1 ≤ length out.old }
@@ -296,11 +303,28 @@ impl<W: Law> Board<W> {
         }
     }
 
+    /// Copies offers of the match's sheet as it is now, from a place on, and returns how many: as many as there are and as fit. It
+    /// adds nothing, and needs no pin.
+    ///
+    /// One look-up of the match. Steps over the offers before `from`. Takes no memory.
+    #[tactic(auto, using(crate::proofs::Lists::newest_sheet))]
+    pub fn newest(&self, match_name: &Name, from: usize, out: &mut [Offer]) -> usize
+        requires some { 1 ≤ length out.old }
+        requires few { length out.old ≤ MOST_STANDING }
+        requires within { from ≤ length (sheet self.now.fixed.rules self.now.history (length self.now.history) match_name.now) }
+        ensures { IsCopied (sheet self.now.fixed.rules self.now.history (length self.now.history) match_name.now) from out.old out.new result }
+    {
+        copy_newest(&self.books, match_name, from, out)
+    }
+
     /// Files what was found of the sheet of a live pin, which ends the pin. It adds one entry, whose room was taken with the pin.
+    ///
+    /// One look-up of the pin. Takes no memory, and gives back that of the pinned sheet.
     pub fn file(&mut self, pin: Pin, finding: Finding)
         requires live { IsLive self.old.history pin }
         requires allowed { W.allows self.old.fixed.law (sheet self.old.fixed.rules self.old.history pin.version pin.match_name) finding }
-        ensures { self.new ≡ with_entry self.old pin.caller (event.Filed pin.version finding) }
+        ensures added { self.new ≡ with_entry self.old pin.caller (event.Filed pin.version finding) }
+        ensures legal { HasLegalHistory W.allows self.new }
     {
         self.pins.remove(&pin.caller);
         let event = Event::Filed {
@@ -311,19 +335,22 @@ impl<W: Law> Board<W> {
     }
 
     /// Ends a live pin without a finding. It adds one entry, whose room was taken with the pin.
+    ///
+    /// One look-up of the pin. Takes no memory, and gives back that of the pinned sheet.
     pub fn release(&mut self, pin: Pin)
         requires { IsLive self.old.history pin }
-        ensures { self.new ≡ with_entry self.old pin.caller (event.Released pin.version) }
+        ensures added { self.new ≡ with_entry self.old pin.caller (event.Released pin.version) }
+        ensures legal { HasLegalHistory W.allows self.new }
     {
         self.pins.remove(&pin.caller);
         let version = pin.version;
         add(&mut self.history, pin.caller, Event::Released { version });
     }
 
-    /// The history, which is legal.
+    /// The history, which is legal, from the first entry on. Constant time.
     pub fn history(&self) -> &[Entry]
         ensures value { result.now ≡ self.now.history }
-        ensures legal { IsLegal self.now.fixed.rules (W.allows self.now.fixed.law) self.now.history }
+        ensures legal { HasLegalHistory W.allows self.now }
     {
         self.history.as_slice()
     }
@@ -331,7 +358,7 @@ impl<W: Law> Board<W> {
     /// The history, which is legal, and nothing else of the board.
     pub fn into_history(self) -> Vec<Entry>
         ensures value { result.items ≡ self.history }
-        ensures legal { IsLegal self.fixed.rules (W.allows self.fixed.law) self.history }
+        ensures legal { HasLegalHistory W.allows self }
     {
         self.history
     }

@@ -2,7 +2,9 @@
 
 ghost use Rattle.std.specs.Prelude.{◌≡◌, ℕ, false, ◌==◌, ◌&&◌, OnOk, OnErr, if◌then◌else◌};
 ghost use Rattle.std.specs.Option.{option_or, is_none, option_map_or};
-ghost use Rattle.quote_board.specs.Books.{offer_in, waits_for, SameWaiting};
+ghost use Rattle.std.specs.BTreeMap.{values, IsOrdered};
+ghost use Rattle.quote_board.specs.Books.{offer_in, waits_for, slot_cmp, SameWaiting};
+ghost use Rattle.quote_board.specs.Answers.{IsCopied};
 
 use scan_types::{Name, Offer, WantOfMemory};
 use std::alloc::Global;
@@ -13,7 +15,7 @@ use std::collections::BTreeMap;
 pub(crate) struct Slot {
     /// The number of the feed.
     pub(crate) feed: u8,
-    /// The number of the selection, 0 to 142.
+    /// The number of the selection, below `MOST_SELECTIONS`.
     pub(crate) number: u8,
 }
 
@@ -116,4 +118,20 @@ pub(crate) fn clear_due(book: &mut Book, waiting: &mut BTreeMap<u64, Name>)
         waiting.remove(&place);
         book.due = None;
     }
+}
+
+/// Copies offers of the match, in the order of a sheet and from a place on, and returns how many: as many as there are and as fit.
+pub(crate) fn copy_offers(book: &Book, from: usize, out: &mut [Offer]) -> usize
+    ensures copied { IsCopied (values book.now.offers) from out.old out.new result }
+    ensures ordered { IsOrdered slot_cmp book.now.offers }
+{
+    let mut count = 0;
+    for offer in book.offers.values().skip(from) {
+        if count == out.len() {
+            return count;
+        }
+        out[count] = *offer;
+        count += 1;
+    }
+    count
 }

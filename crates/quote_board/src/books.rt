@@ -3,11 +3,12 @@
 ghost use Rattle.std.specs.Prelude.{◌≡◌, ℕ, List, false, ◌==◌, ◌&&◌, OnOk, OnErr, IfOk, IsSome, IfSome, if◌then◌else◌};
 ghost use Rattle.std.specs.Option.{option_or, is_none, option_map_or};
 ghost use Rattle.std.specs.Str.{bytes_eq};
+ghost use Rattle.quote_board.specs.Answers.{IsCopied};
 ghost use Rattle.quote_board.specs.Books.{offer_of, due_of, offers_on, waits_for, slot_cmp, SameWaiting};
 ghost use Rattle.std.specs.BTreeMap.{IsOrdered};
 ghost use Rattle.indexmap.specs.IndexMap.{get as entry_of};
 
-use crate::book::{Book, Slot, clear_due, put_offer, take_offer};
+use crate::book::{Book, Slot, clear_due, copy_offers, put_offer, take_offer};
 use indexmap::IndexMap;
 use scan_types::{Name, Offer, WantOfMemory};
 use std::alloc::Global;
@@ -84,5 +85,21 @@ pub(crate) fn copy_sheet(
     match books.get(&match_name) {
         None => Ok(Vec::new(alloc)),
         Some(book) => Ok(book.offers.values().copied().collect(alloc)?),
+    }
+}
+
+/// Copies offers on the match, in the order of a sheet and from a place on, and returns how many: as many as there are and as fit.
+pub(crate) fn copy_newest(
+    books: &IndexMap<Name, Book>,
+    match_name: &Name,
+    from: usize,
+    out: &mut [Offer],
+) -> usize
+    ensures copied { IsCopied (offers_on books.now match_name.now) from out.old out.new result }
+    ensures ordered { IfSome (entry_of bytes_eq books.now match_name.now) (λ book. IsOrdered slot_cmp book.offers) }
+{
+    match books.get(match_name) {
+        None => 0,
+        Some(book) => copy_offers(book, from, out),
     }
 }

@@ -17,7 +17,7 @@ pub trait Judge {
     fn law(&self) -> &Self::W
         ensures { result.now ≡ law_of self.now };
 
-    /// What is found of the sheet. The law stays.
+    /// What is found of the sheet. The law stays. Fails only if no memory is left.
     fn judge(&mut self, alloc: Global, sheet: &Sheet) -> Result<Finding, WantOfMemory>
         ensures allowed { IfOk result (λ finding. Self.W.allows (law_of self.old) sheet.now finding) }
         ensures law { law_of self.new ≡ law_of self.old };

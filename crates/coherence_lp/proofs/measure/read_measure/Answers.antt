@@ -1,4 +1,4 @@
-use Rattle.std.proofs.Common.{List, [], ◌∷◌, rules, ◌≡◌, ◌∙◌, ℕ, ◌+◌, ◌<◌, ◌≤◌, ◌++◌, length, filter, take, map, ap, ap₂, sym, subst, subst₂, arith}
+use Rattle.std.proofs.Common.{List, [], ◌∷◌, rules, ◌≡◌, ◌∙◌, ℕ, ◌<◌, ◌≤◌, ◌++◌, length, filter, ap, ap₂, sym, subst, arith}
 use Rattle.std.specs.Prelude.{unsigned_abs, slice_index, slice_index_or, zip}
 use Rattle.std.specs.Int.{◌∣◌}
 use Rattle.std.proofs.lemmas.List.{take_all}
@@ -79,8 +79,7 @@ returns-clause-measure c =
     let weights = class_weights outcomes tableau in
     let whole : length (zip outcomes weights) ≤ c.loop-j.j = omega (arith, c.loop-j-test.false, length-zip outcomes weights) in
     let none = none_above MOST_PART weights c.loop-j.j (omega (arith, c.loop-j-test.false, length-weights outcomes tableau)) c.loop-j.invariant.none in
-    let is : c.of.result ≡ weighted_classes outcomes weights = c.of.ensures ∙ c.loop-j.invariant.items ∙ ap (filter has_weight) (take_all c.loop-j.j (zip outcomes weights) whole) in
-    (
+    let is : c.of.result ≡ weighted_classes outcomes weights = c.of.ensures ∙ c.loop-j.invariant.items ∙ ap (filter has_weight) (take_all c.loop-j.j (zip outcomes weights) whole) in (
       subst (λ classes. NoneAbove MOST_PART (class_weights classes tableau)) c.outcomes-outcomes.ensures none,
       is ∙ ap (λ classes. weighted_classes classes (class_weights classes tableau)) c.outcomes-outcomes.ensures,
     )

@@ -1,10 +1,10 @@
-use Rattle.std.proofs.Common.{◌≡◌, ◌∙◌, ℕ, map, ap, subst, sym, arith, SFits, to_z-of_z, rules, pos}
+use Rattle.std.proofs.Common.{◌≡◌, ◌∙◌, ℕ, map, ap, subst, arith, SFits, to_z-of_z, rules, pos}
 use Rattle.std.specs.Prelude.{unsigned_abs}
 use Rattle.std.specs.Int.{w128, IsGcd}
 use Rattle.std.specs.List.{range_with_len}
 use Rattle.std.proofs.lemmas.List.FromFn.{length-map-range_with_len, get_or-map-range_with_len}
 use Rattle.pivot_definitions.specs.Tableaus.{multiplier_of}
-use Rattle.coherence_lp.proofs.Divisors.{IsGcdBelow, gcd_none, gcd_more, gcd_row}
+use Rattle.coherence_lp.proofs.Divisors.{IsGcdBelow, gcd_more, gcd_row}
 use Rattle.coherence_lp.proofs.measure.weight_divisor.Goals as goal
 
 pub loop-row-preserved : goal.loop-row-preserved

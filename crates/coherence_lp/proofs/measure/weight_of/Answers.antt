@@ -1,4 +1,4 @@
-use Rattle.std.proofs.Common.{◌≡◌, ◌≢◌, ◌∙◌, ap, sym, arith, SFits, to_z-of_z, rules}
+use Rattle.std.proofs.Common.{◌∙◌, ap, sym, SFits, to_z-of_z, rules}
 use Rattle.std.specs.Prelude.{unsigned_abs, ◌/◌}
 use Rattle.std.specs.Int.{w128}
 use Rattle.pivot_definitions.specs.Tableaus.{multiplier_of}

@@ -1,7 +1,6 @@
-use Rattle.std.proofs.Common.{◌≡◌, ℕ, ◌≤◌, ap, ap₂, subst, sym, ◌∙◌, to_z-of_z, SFits, rules}
+use Rattle.std.proofs.Common.{ℕ, ◌≤◌, ap, ap₂, subst, sym, ◌∙◌, to_z-of_z, SFits, rules}
 use Rattle.std.specs.Prelude.{unsigned_abs}
 use Rattle.std.specs.Int.{w128}
-use lib.IntN.{ℤ}
 use Rattle.judging_definitions.specs.Stakes.{Fraction}
 use Rattle.coherence_lp.proofs.EndFacts.{value_is, value_stands}
 use Rattle.coherence_lp.proofs.ratios.column_ratio.Goals as goal

@@ -1,4 +1,4 @@
-use Rattle.std.proofs.Common.{◌∙◌, ◌≡◌, ◌<◌, length, get_or, arith}
+use Rattle.std.proofs.Common.{◌∙◌, arith}
 use Rattle.std.proofs.lemmas.Bool.Decides.{nat_tests}
 use Rattle.odds_fixed.proofs.GoalParts.{plus_sign, minus_sign, no_sign, no_text}
 use Rattle.odds_fixed.proofs.quarters.read_quarters.Goals as goal

@@ -29,3 +29,6 @@ invariant_of-self g c =
     (vec_capacity c.self.inside.history) (vec_capacity c.add.new.history) c.self.inside.open_feeds (c.self.inside.open_feeds - 1)
     c.self.inside.books c.self.inside.waiting c.self.inside.pins
     (rw (← c.self.view_is) at c.requires.open) c.requires.stop (omega (arith, run, is)) c.add.ensures.capacity c.self.invariant)
+
+pub returns-clause-legal : goal.returns-clause-legal
+returns-clause-legal g c = let sound = invariant_of-self g c in sound.legal

@@ -26,3 +26,6 @@ invariant_of-self g c =
     (sound_filed (g.W.Law.allows c.self.inside.fixed.law) c.self.inside.fixed.rules h c.args.pin c.args.finding
     (vec_capacity c.self.inside.history) (vec_capacity c.add.new.history) c.self.inside.open_feeds c.self.inside.books c.self.inside.waiting c.self.inside.pins c.remove.new.self
     (rw (← c.self.view_is) at c.requires.live) (rw (← c.self.view_is) at c.requires.allowed) room c.remove.ensures.updates.0 c.self.invariant)
+
+pub returns-clause-legal : goal.returns-clause-legal
+returns-clause-legal g c = let sound = invariant_of-self g c in sound.legal

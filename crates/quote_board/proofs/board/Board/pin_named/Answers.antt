@@ -37,3 +37,6 @@ invariant_of-self-2 g c =
     c.self.inside.waiting c.settle.new.waiting c.self.inside.pins c.insert.new.self
     (rw (← c.self.view_is) at c.requires) at_end sheet_is room
     c.settle.ensures.offers c.settle.ensures.due c.settle.ensures.waiting c.in_ok-insert.ensures.updates.0 c.self.invariant)
+
+pub returns-clause-legal : goal.returns-clause-legal
+returns-clause-legal g c = let sound = invariant_of-self-2 g c in sound.legal

@@ -37,3 +37,6 @@ invariant_of-self-2 g c =
     c.self.inside.books c.quote_on.new.books c.self.inside.waiting c.quote_on.new.waiting c.self.inside.pins
     (rw (← c.self.view_is) at c.requires) c.offer_for-offer.ensures c.slot_of.ensures.feed c.slot_of.ensures.number at_end room
     c.in_ok-quote_on.ensures.offers c.in_ok-quote_on.ensures.due c.in_ok-quote_on.ensures.waiting c.self.invariant)
+
+pub returns-clause-legal : goal.returns-clause-legal
+returns-clause-legal g c = let sound = invariant_of-self-2 g c in sound.legal

@@ -1,0 +1,82 @@
+ghost use Rattle.std.specs.Prelude.{◌≡◌, IsTrue};
+ghost use Rattle.report_text.specs.Stops.{is_reported};
+
+use board_definitions::FeedStop;
+use feed_text::{Header, Refusal};
+use std::marker::Model;
+
+/// The refused lines of a feed, in the order of the feed.
+#[derive(Debug, Drop)]
+pub struct Refusals {
+    items: Vec<Refusal>,
+}
+
+impl Model for Refusals {
+    ghost use Rattle.std.specs.Prelude.{List};
+    ghost use Rattle.feed_text.specs.declared.cause.Refusal.{Refusal};
+
+    ghost Value = { List Refusal };
+
+    ghost view = { λ r. r.items.items };
+}
+
+impl Refusals {
+    /// These refused lines. Takes no memory.
+    pub fn of(items: Vec<Refusal>) -> Refusals
+        ensures { result ≡ items.items }
+    {
+        Refusals { items }
+    }
+
+    /// The refused lines in their order.
+    pub fn items(&self) -> &[Refusal]
+        ensures { result.now ≡ self.now }
+    {
+        self.items.as_slice()
+    }
+}
+
+/// What a report says of a feed.
+#[derive(Debug, Drop)]
+pub struct FeedPart {
+    /// The first line of the feed.
+    pub header: Header,
+    /// How many lines were answered, the header included.
+    pub lines: u32,
+    /// The refused lines, in the order of the feed.
+    pub refusals: Refusals,
+    /// How its reading ended: `End`, `Cut` or `ReadFault`.
+    pub stop: FeedStop,
+    ghost stop_is: { IsTrue (is_reported stop) },
+}
+
+/// What a report says of its feeds, by their numbers.
+#[derive(Debug, Drop)]
+pub struct FeedParts {
+    items: Vec<FeedPart>,
+}
+
+impl Model for FeedParts {
+    ghost use Rattle.std.specs.Prelude.{List};
+    ghost use Rattle.report_text.specs.declared.feed_part.FeedPart.{FeedPart};
+
+    ghost Value = { List FeedPart };
+
+    ghost view = { λ f. f.items.items };
+}
+
+impl FeedParts {
+    /// These feeds. Takes no memory.
+    pub fn of(items: Vec<FeedPart>) -> FeedParts
+        ensures { result ≡ items.items }
+    {
+        FeedParts { items }
+    }
+
+    /// The feeds by their numbers.
+    pub fn items(&self) -> &[FeedPart]
+        ensures { result.now ≡ self.now }
+    {
+        self.items.as_slice()
+    }
+}
