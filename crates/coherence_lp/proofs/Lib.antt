@@ -1,5 +1,10 @@
 pub mod Below
 pub mod Tables
+pub mod ProgramTables
+pub mod Sizes
+pub mod Picked
+pub mod Ranges
+pub mod WrittenPrograms
 pub mod EndFacts
 pub mod Divisors
 pub mod ClassWeights
