@@ -11,4 +11,3 @@ mod writing;
 
 pub use report_text::{FeedPart, FeedParts, MatchPart, MatchParts, Refusals, Report};
 pub use writing::write_report;
-
