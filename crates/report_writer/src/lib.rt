@@ -11,3 +11,6 @@ mod writing;
 
 pub use report_text::{FeedPart, FeedParts, MatchPart, MatchParts, Refusals, Report};
 pub use writing::write_report;
+
+#[cfg(test)]
+mod tests;
