@@ -8,7 +8,7 @@ use Rattle.std.proofs.lemmas.Bool.{ltb-false, ltb-true}
 use Rattle.std.proofs.lemmas.Option.{cond_some}
 
 -- where `position` finds nothing no element passes
-no_first : (p : ℕ → Bool) (xs : List ℕ) → position p xs ≡ None → ltb (position_or_len p xs) (length xs) ≡ false
+pub no_first : (p : ℕ → Bool) (xs : List ℕ) → position p xs ≡ None → ltb (position_or_len p xs) (length xs) ≡ false
 no_first p xs h = elim (ltb (position_or_len p xs) (length xs)) as (λ b. cond b (Some (position_or_len p xs)) None ≡ None → b ≡ false) [
   | true ↦ λ e. absurd (cc)
   | false ↦ λ e. refl

@@ -21,7 +21,7 @@ fn feed(alloc: Global, book: Name, lines: u32) -> FeedPart {
             rule: VoidRule::Void,
         },
         lines,
-        refusals: Refusals::of(Vec::new(alloc)),
+        refusals: Refusals::new(alloc),
         stop: FeedStop::End,
     }
 }
