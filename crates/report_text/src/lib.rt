@@ -11,6 +11,6 @@ mod feed_part;
 mod match_part;
 mod report;
 
-pub use feed_part::{FeedPart, FeedParts, Refusals};
+pub use feed_part::{FeedPart, FeedParts};
 pub use match_part::{MatchPart, MatchParts};
 pub use report::Report;
