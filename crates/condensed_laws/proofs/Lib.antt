@@ -1,1 +1,4 @@
 pub mod Wholes
+pub mod Heads
+pub mod Pivots
+pub mod PivotRows

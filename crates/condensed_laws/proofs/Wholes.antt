@@ -1,12 +1,12 @@
 -- The combination of whole rows is the whole row of the combination.
-use Rattle.std.proofs.Common.{◌≡◌, ℕ, zero, suc, ◌<◌, ◌≤◌, ◌⊎◌, inl, inr, List, [], ◌∷◌, length, map, get_or, ℤ, pos, ◌*ℤ◌, ◌-ℤ◌, unsigned_abs, refl, sym, ap, ap₂, subst, subst₂, ◌∙◌, arith, lit<, All}
+use Rattle.std.proofs.Common.{◌≡◌, ℕ, zero, suc, ◌<◌, ◌≤◌, ◌⊎◌, inl, inr, List, [], ◌∷◌, length, map, get_or, ℤ, pos, ◌*ℤ◌, ◌-ℤ◌, unsigned_abs, refl, sym, ap, ap₂, subst, subst₂, ◌∙◌, arith, lit<}
 use Rattle.std.specs.Int.{◌∣◌}
 use Rattle.std.proofs.lemmas.List.{length-map}
 use Rattle.std.proofs.lemmas.List.Elements.{All-from_get_or}
 use Rattle.std.proofs.lemmas.Nat.Gcd.{dvd-zero}
 use Rattle.std.proofs.Math.IntN.{*ℤ-zero}
 use Rattle.row_definitions.specs.Rows.{entry, row_divisor, divided, primitive_row}
-use Rattle.row_definitions.specs.Combination.{combination, target_factor, pivot_factor, reduced_combination, combined, FitsEntry, ProductsFit, FitsAt, PassesNowhere}
+use Rattle.row_definitions.specs.Combination.{combination, target_factor, pivot_factor, FitsEntry, ProductsFit, FitsAt, PassesNowhere}
 use Rattle.row_definitions.proofs.Divisors.{Divides, Divides-entry, Divides-from_All, row_divisor_is, row_divisor_from}
 use Rattle.row_definitions.proofs.Combinations.{length-combination, entry-combination, entry-divided}
 use Rattle.condensed_laws.specs.Wholes.{whole, IsShown, ShowEach}
@@ -18,7 +18,7 @@ entry-whole [] row column within = absurd (omega arith)
 entry-whole (k ∷ places) row zero within = refl
 entry-whole (k ∷ places) row (suc column) within = entry-whole places row column (omega arith)
 
-entry_past : (row : List ℤ) (k : ℕ) → length row ≤ k → entry row k ≡ pos 0
+pub entry_past : (row : List ℤ) (k : ℕ) → length row ≤ k → entry row k ≡ pos 0
 entry_past [] k past = refl
 entry_past (x ∷ row) zero past = absurd (omega arith)
 entry_past (x ∷ row) (suc k) past = entry_past row k (omega arith)
@@ -114,7 +114,7 @@ zeros_fit a b t p no_target no_pivot = subst₂ (λ x y. ProductsFit a b x y) (s
   difference = subst FitsEntry (sym (zero_difference a b)) zero_fits;
 })
 
-below_or : (n m : ℕ) → (n < m) ⊎ (m ≤ n)
+pub below_or : (n m : ℕ) → (n < m) ⊎ (m ≤ n)
 below_or n zero = inr (omega arith)
 below_or zero (suc m) = inl (omega arith)
 below_or (suc n) (suc m) = elim (below_or n m) [ inl h ↦ inl (omega arith) | inr h ↦ inr (omega arith) ]

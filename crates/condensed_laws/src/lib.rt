@@ -2,10 +2,15 @@
 //! each column shows the entry at its place, and a place past the end is 0. To combine condensed rows is to combine whole
 //! ones, so a tableau need not keep the columns that are basic in other rows.
 //!
-//! There is no code here: the function is empty, and its clauses are the law.
+//! There is no code here. The definitions stand in specs/, and each function has an empty body and a law as its contract.
+//!
+//! - `Wholes`: condensed rows and their whole rows.
+//! - `Heads`: a tableau of condensed rows, and what a pivot does to its rows and heads.
+//! - `whole_rows_law`: the combination of whole rows, and where it passes 128 bits.
+//! - `pivot_law`: a pivot of condensed rows is one of their whole rows.
 #![tactic(auto)]
 
-ghost use Rattle.condensed_laws.specs.Laws.{CombinedOfWholes, FitsOfWholes, PassesNowhereOfWholes};
+ghost use Rattle.condensed_laws.specs.Laws.{CombinedOfWholes, FitsOfWholes, PassesNowhereOfWholes, TargetOfPivot, PivotRowStays, PivotPassesNowhere, PivotFitsAt};
 
 /// Two condensed rows with the same places, which show each entry that is not 0 in both. The combination of their whole
 /// rows is the whole row of their combination, and the one passes 128 bits in a column just where the other does at the
@@ -14,4 +19,14 @@ pub fn whole_rows_law()
     ensures combined { CombinedOfWholes }
     ensures fits { FitsOfWholes }
     ensures passes_nowhere { PassesNowhereOfWholes }
+{}
+
+/// In a pivot of condensed rows the leaving column takes the place of the entering one. Each other row then stands for the
+/// combination of the whole rows, and the pivot row for the whole row that it stood for. The combination of the condensed
+/// rows passes 128 bits at a place just where that of the whole rows passes in a column with the place.
+pub fn pivot_law()
+    ensures target { TargetOfPivot }
+    ensures pivot_row { PivotRowStays }
+    ensures passes_nowhere { PivotPassesNowhere }
+    ensures fits { PivotFitsAt }
 {}
