@@ -1,6 +1,6 @@
 -- Parts of a block that is written in one place.
-use Rattle.std.proofs.Common.{◌≡◌, ℕ, zero, suc, ◌+◌, ◌-◌, ◌*◌, ◌<◌, ◌≤◌, ◌≢◌, ◌⊎◌, inl, inr, List, [], ◌∷◌, ◌++◌, length, take, drop, get_or, refl, sym, ap, ap₂, ◌∙◌, subst, arith}
-use Rattle.std.proofs.lemmas.List.{length-take-le, length-append, length-drop, take-append-le, take-take, drop-append-le, drop-take, drop-drop, drop_at, take_at, append_assoc, take-append-drop}
+use Rattle.std.proofs.Common.{◌≡◌, ℕ, zero, suc, ◌+◌, ◌-◌, ◌*◌, ◌<◌, ◌≤◌, ◌≢◌, ◌⊎◌, inl, inr, List, ◌++◌, length, take, drop, sym, ap, ap₂, ◌∙◌, arith}
+use Rattle.std.proofs.lemmas.List.{length-take-le, length-append, take-append-le, take-take, drop-append-le, drop-take, drop-drop, append_assoc, take-append-drop}
 use Rattle.std.proofs.lemmas.Nat.{mul-le}
 use lib.IntN.{ℤ}
 use Rattle.row_pool.specs.Parts.{with_part}

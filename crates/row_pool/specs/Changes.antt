@@ -1,5 +1,5 @@
 -- What a closure may be called on, and what it leaves in a row.
-use Rattle.std.specs.Prelude.{◌≡◌, ◌≢◌, ℕ, ◌+◌, ◌≤◌, List, ◌++◌, length, take, drop, Option, Some, ℤ}
+use Rattle.std.specs.Prelude.{◌≡◌, ℕ, List, Some, ℤ}
 use Rattle.std.specs.Fn.{Once, FnOnceTakesAtMut, FnOnceReturnsAtMut}
 use Rattle.std.specs.Borrow.{Bor, MutBor}
 use Rattle.row_pool.specs.Pools.{Pool, row_at, with_row}

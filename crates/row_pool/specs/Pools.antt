@@ -1,5 +1,5 @@
 -- A pool of rows of numbers, some free and some out.
-use Rattle.std.specs.Prelude.{◌≡◌, ◌≢◌, ℕ, ◌<◌, Bool, if◌then◌else◌, Option, None, Some, List, [], ◌∷◌, length, take, drop, replicate, slice_index_or, slice_set, ℤ, pos, IsSome}
+use Rattle.std.specs.Prelude.{◌≡◌, ℕ, ◌<◌, Bool, if◌then◌else◌, Option, None, Some, List, [], ◌∷◌, length, take, drop, replicate, slice_index_or, slice_set, ℤ, pos, IsSome}
 
 -- a pool: how many numbers each row has, and its rows by their numbers, each `None` while it is free
 pub record Pool : Type 0 where

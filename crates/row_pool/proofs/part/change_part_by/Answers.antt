@@ -1,6 +1,6 @@
-use Rattle.std.proofs.Common.{◌≡◌, ◌∙◌, refl, ◌++◌, ◌+◌, ap, ap₂, sym, subst, List, ℤ, length, take, drop, arith, rules}
+use Rattle.std.proofs.Common.{◌≡◌, ◌∙◌, refl, ◌++◌, ◌+◌, ap, ap₂, sym, List, ℤ, length, take, drop, arith}
 use Rattle.std.proofs.lemmas.List.{append_assoc, drop-drop}
-use Rattle.row_pool.specs.Parts.{part_of, with_part}
+use Rattle.row_pool.specs.Parts.{part_of}
 use Rattle.row_pool.proofs.Blocks.{part_before, joined, first_ends, second_ends}
 use Rattle.row_pool.proofs.part.change_part_by.Goals as goal
 

@@ -1,4 +1,4 @@
-use Rattle.std.proofs.Common.{◌≡◌, ◌+◌, ◌∷◌, [], ◌++◌, ◌∙◌, ap, sym, List, set, drop, get_or, replicate, length, arith}
+use Rattle.std.proofs.Common.{◌+◌, ◌∷◌, [], ◌++◌, ◌∙◌, ap, sym, List, set, drop, get_or, replicate}
 use Rattle.std.proofs.lemmas.List.{length-replicate, set_at, drop_more, append_assoc, replicate-append-replicate}
 use lib.IntN.{ℤ, pos}
 use Rattle.row_pool.proofs.part.clear.Goals as goal

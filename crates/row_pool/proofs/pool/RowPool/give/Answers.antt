@@ -1,4 +1,4 @@
-use Rattle.std.proofs.Common.{◌≡◌, ◌∙◌, ap, sym, subst, List, ℤ, arith}
+use Rattle.std.proofs.Common.{◌∙◌, ap, sym, subst, List, ℤ, arith}
 use Rattle.std.specs.Prelude.{None, Option}
 use Rattle.row_pool.specs.Pools.{Pool, IsOut, with_row}
 use Rattle.row_pool.proofs.Rows.{out_is_part, row_freed}

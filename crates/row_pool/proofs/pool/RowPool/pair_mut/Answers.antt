@@ -1,11 +1,11 @@
-use Rattle.std.proofs.Common.{◌≡◌, ◌∙◌, ◌+◌, ◌*◌, ◌≤◌, ap, ap₂, sym, subst, List, ℤ, Bool, length, set, true, arith}
-use Rattle.std.specs.Prelude.{None, Some, Option}
+use Rattle.std.proofs.Common.{◌∙◌, ◌*◌, ap, ap₂, sym, subst, List, ℤ, Bool, true, arith}
+use Rattle.std.specs.Prelude.{Some, Option}
 use Rattle.std.proofs.lemmas.List.{with_items_is}
 use Rattle.row_pool.specs.Pools.{Pool, IsOut, row_at, with_row, rows_of}
 use Rattle.row_pool.specs.Changes.{ReturnsAtRows}
 use Rattle.row_pool.specs.Parts.{part_of, with_part}
 use Rattle.row_pool.proofs.Blocks.{rows_apart}
-use Rattle.row_pool.proofs.Rows.{IsPart, out_is_part, ends_within, mark_stays, row_written}
+use Rattle.row_pool.proofs.Rows.{out_is_part, ends_within, mark_stays, row_written}
 use Rattle.row_pool.proofs.pool.RowPool.pair_mut.Goals as goal
 
 pub overflow_mul-first : goal.overflow_mul-first

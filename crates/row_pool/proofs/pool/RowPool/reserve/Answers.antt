@@ -1,4 +1,4 @@
-use Rattle.std.proofs.Common.{◌≡◌, ◌∙◌, ◌++◌, ap, List, ℤ, Bool, replicate, false}
+use Rattle.std.proofs.Common.{◌∙◌, ◌++◌, ap, List, ℤ, Bool, replicate, false}
 use Rattle.std.specs.Prelude.{Option}
 use Rattle.row_pool.specs.Pools.{Pool, rows_of}
 use Rattle.row_pool.proofs.Rows.{rows_free}

@@ -1,5 +1,5 @@
-use Rattle.std.proofs.Common.{◌≡◌, ◌∙◌, ◌+◌, ◌*◌, ◌≤◌, ap, sym, subst, List, ℤ, length, arith}
-use Rattle.std.specs.Prelude.{None, Some, Option}
+use Rattle.std.proofs.Common.{◌∙◌, ◌*◌, ap, sym, subst, List, ℤ, arith}
+use Rattle.std.specs.Prelude.{Some, Option}
 use Rattle.row_pool.specs.Pools.{Pool, IsOut, row_at}
 use Rattle.row_pool.specs.Parts.{part_of}
 use Rattle.row_pool.proofs.Rows.{out_is_part, ends_within}

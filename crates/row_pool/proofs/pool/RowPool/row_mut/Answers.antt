@@ -1,6 +1,6 @@
-use Rattle.std.proofs.Common.{◌≡◌, ◌∙◌, ◌+◌, ◌*◌, ◌≤◌, ap, ap₂, sym, subst, List, ℤ, Bool, length, set, true, arith}
-use Rattle.std.specs.Prelude.{None, Some, Option}
-use Rattle.std.specs.Fn.{FnOnceTakesAtMut, FnOnceReturnsAtMut}
+use Rattle.std.proofs.Common.{◌∙◌, ◌*◌, ap, ap₂, sym, subst, List, ℤ, Bool, true, arith}
+use Rattle.std.specs.Prelude.{Some, Option}
+use Rattle.std.specs.Fn.{FnOnceReturnsAtMut}
 use Rattle.std.proofs.lemmas.List.{with_items_is}
 use Rattle.row_pool.specs.Pools.{Pool, IsOut, row_at, with_row, rows_of}
 use Rattle.row_pool.specs.Parts.{part_of, with_part}

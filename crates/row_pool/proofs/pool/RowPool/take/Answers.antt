@@ -1,9 +1,9 @@
-use Rattle.std.proofs.Common.{◌≡◌, ◌∙◌, ◌+◌, ◌*◌, ◌<◌, ◌≤◌, ap, ap₂, sym, subst, List, ℤ, Bool, length, replicate, true, false, refl, pos, arith}
-use Rattle.std.specs.Prelude.{None, Some, Option, IsSome, IfNone, IsTrue}
+use Rattle.std.proofs.Common.{◌≡◌, ◌∙◌, ◌*◌, ap, sym, subst, List, ℤ, Bool, true, false, pos, arith}
+use Rattle.std.specs.Prelude.{Some, Option, IsSome, IfNone, IsTrue}
 use Rattle.std.specs.List.{All, slice_get}
 use Rattle.std.proofs.lemmas.List.{length-replicate, with_items_is}
 use Rattle.std.proofs.lemmas.Option.{slice_get_within}
-use Rattle.row_pool.specs.Pools.{Pool, IsFree, row_at, with_row, rows_of, zeros}
+use Rattle.row_pool.specs.Pools.{Pool, IsFree, with_row, rows_of, zeros}
 use Rattle.row_pool.specs.Parts.{with_part}
 use Rattle.row_pool.proofs.Rows.{all_out, ends_within, length-rows_of, unmarked_is_free, row_written}
 use Rattle.row_pool.proofs.pool.RowPool.take.Goals as goal
