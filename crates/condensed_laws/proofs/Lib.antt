@@ -2,3 +2,5 @@ pub mod Wholes
 pub mod Heads
 pub mod Pivots
 pub mod PivotRows
+pub mod Tableaus
+pub mod Sound

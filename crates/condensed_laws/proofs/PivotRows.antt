@@ -86,7 +86,7 @@ entering_place width own pivot leaving entering place heads target row rows =
 entering_within : (width own pivot leaving entering place : ℕ) (heads : List ℕ) (target row : List ℤ) → ArePivotRows width own pivot leaving entering place heads target row → entering < length (pivot_places width own pivot heads)
 entering_within width own pivot leaving entering place heads target row rows = omega (arith, place_count (pivot_place_by width own pivot) width heads, rows.swap.entering_within)
 
-length-combined : (target row : List ℤ) (at : ℕ) → length target ≡ length row → length (combined target row at) ≡ length target
+pub length-combined : (target row : List ℤ) (at : ℕ) → length target ≡ length row → length (combined target row at) ≡ length target
 length-combined target row at lengths = length-map (reduced_combination target row at) (divided (row_divisor (reduced_combination target row at))) ∙ length-combination (target_factor target row at) (pivot_factor target row at) target row lengths
 
 pub target_of_pivot : TargetOfPivot

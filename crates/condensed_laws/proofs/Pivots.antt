@@ -21,7 +21,7 @@ apart j k less is = absurd (omega (arith, is))
 apart_above : (j k : ℕ) → k < j → j ≢ k
 apart_above j k more is = absurd (omega (arith, is))
 
-twice_elsewhere : (row : List ℤ) (k l j : ℕ) (x y : ℤ) → j ≢ k → j ≢ l → entry (set (set row k x) l y) j ≡ entry row j
+pub twice_elsewhere : (row : List ℤ) (k l j : ℕ) (x y : ℤ) → j ≢ k → j ≢ l → entry (set (set row k x) l y) j ≡ entry row j
 twice_elsewhere row k l j x y differ differ_too = entry-set_other (set row k x) l j y differ_too ∙ entry-set_other row k j x differ
 
 twice_first : (row : List ℤ) (k l : ℕ) (x y : ℤ) → k ≢ l → k < length row → entry (set (set row k x) l y) k ≡ x

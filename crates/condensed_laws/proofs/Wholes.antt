@@ -66,7 +66,7 @@ pivot_factor-whole : (places : List ℕ) (target pivot : List ℤ) (column : ℕ
 pivot_factor-whole places target pivot column within =
     ap₂ (λ x y. divided (row_divisor (x ∷ y ∷ [])) y) (entry-whole places pivot column within) (entry-whole places target column within)
 
-zero_difference : (a b : ℤ) → a *ℤ pos 0 -ℤ b *ℤ pos 0 ≡ pos 0
+pub zero_difference : (a b : ℤ) → a *ℤ pos 0 -ℤ b *ℤ pos 0 ≡ pos 0
 zero_difference a b = ap₂ (λ y z. y -ℤ z) (*ℤ-zero a) (*ℤ-zero b)
 
 -- the combination of rows that show each entry shows each entry

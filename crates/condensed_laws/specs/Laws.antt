@@ -1,8 +1,11 @@
 -- Laws of condensed rows.
 use Rattle.std.specs.Prelude.{◌≡◌, ◌↔◌, ℕ, ◌+◌, ◌<◌, List, length, slice_index, ℤ}
+use Rattle.std.specs.List.{Contains}
+use Rattle.pivot_definitions.specs.Laws.{kept_pivot}
 use Rattle.row_definitions.specs.Combination.{combined, FitsAt, PassesNowhere}
 use Rattle.condensed_laws.specs.Wholes.{whole, ShowEach}
 use Rattle.condensed_laws.specs.Heads.{places, pivot_places, lent, moved, swapped, moved_heads, CanSwap, ArePivotRows}
+use Rattle.condensed_laws.specs.Tableaus.{CondensedTableau, IsSound, expanded, condensed_pivot}
 
 -- to combine whole rows in a column gives the whole row of the combination of the condensed rows at the column's place
 abbrev pub CombinedOfWholes : Type 0
@@ -31,3 +34,11 @@ PivotPassesNowhere = (width own pivot leaving entering place : ℕ) (heads : Lis
 -- and in each column they fit just where the whole rows do
 abbrev pub PivotFitsAt : Type 0
 PivotFitsAt = (width own pivot leaving entering place : ℕ) (heads : List ℕ) (target row : List ℤ) → ArePivotRows width own pivot leaving entering place heads target row → (column : ℕ) → column < length heads + 1 → FitsAt (whole (places width own heads) target) (whole (places width pivot heads) row) entering column ↔ FitsAt target (lent width row) place (slice_index (pivot_places width own pivot heads) column)
+
+-- a pivot in a column that is not basic: the condensed tableau then stands for the pivot of the tableau that it stood for
+abbrev pub PivotOfCondensed : Type 0
+PivotOfCondensed = (t : CondensedTableau) (row column : ℕ) → IsSound t → row < length t.basis → column < length t.heads → ¬ Contains t.basis column → expanded (condensed_pivot t row column) ≡ kept_pivot (expanded t) row column
+
+-- and it is sound
+abbrev pub PivotStaysSound : Type 0
+PivotStaysSound = (t : CondensedTableau) (row column : ℕ) → IsSound t → row < length t.basis → column < length t.heads → ¬ Contains t.basis column → IsSound (condensed_pivot t row column)

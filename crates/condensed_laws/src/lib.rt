@@ -5,12 +5,14 @@
 //! There is no code here. The definitions stand in specs/, and each function has an empty body and a law as its contract.
 //!
 //! - `Wholes`: condensed rows and their whole rows.
-//! - `Heads`: a tableau of condensed rows, and what a pivot does to its rows and heads.
+//! - `Heads`: where a column is in a condensed row, and what a pivot does to a row and to the heads.
+//! - `Tableaus`: a tableau of condensed rows, the tableau that it stands for, and its pivots.
 //! - `whole_rows_law`: the combination of whole rows, and where it passes 128 bits.
 //! - `pivot_law`: a pivot of condensed rows is one of their whole rows.
+//! - `tableau_law`: a pivot of a condensed tableau is one of the tableau that it stands for.
 #![tactic(auto)]
 
-ghost use Rattle.condensed_laws.specs.Laws.{CombinedOfWholes, FitsOfWholes, PassesNowhereOfWholes, TargetOfPivot, PivotRowStays, PivotPassesNowhere, PivotFitsAt};
+ghost use Rattle.condensed_laws.specs.Laws.{CombinedOfWholes, FitsOfWholes, PassesNowhereOfWholes, TargetOfPivot, PivotRowStays, PivotPassesNowhere, PivotFitsAt, PivotOfCondensed, PivotStaysSound};
 
 /// Two condensed rows with the same places, which show each entry that is not 0 in both. The combination of their whole
 /// rows is the whole row of their combination, and the one passes 128 bits in a column just where the other does at the
@@ -29,4 +31,11 @@ pub fn pivot_law()
     ensures pivot_row { PivotRowStays }
     ensures passes_nowhere { PivotPassesNowhere }
     ensures fits { PivotFitsAt }
+{}
+
+/// A condensed tableau that is sound stands, after a pivot in a column that is not basic, for the pivot of the tableau that it
+/// stood for, and is sound.
+pub fn tableau_law()
+    ensures pivot { PivotOfCondensed }
+    ensures sound { PivotStaysSound }
 {}
