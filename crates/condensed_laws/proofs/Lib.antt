@@ -4,3 +4,5 @@ pub mod Pivots
 pub mod PivotRows
 pub mod Tableaus
 pub mod Sound
+pub mod Shown
+pub mod Built

@@ -18,20 +18,20 @@ read_map f [] column within = absurd (omega arith)
 read_map f (head ∷ heads) zero within = refl
 read_map f (head ∷ heads) (suc column) within = read_map f heads column (omega arith)
 
-place_at : (f : ℕ → ℕ) (width : ℕ) (heads : List ℕ) (column : ℕ) → column < length heads → get_or (map f heads ++ width ∷ []) column 0 ≡ f (get_or heads column 0)
+pub place_at : (f : ℕ → ℕ) (width : ℕ) (heads : List ℕ) (column : ℕ) → column < length heads → get_or (map f heads ++ width ∷ []) column 0 ≡ f (get_or heads column 0)
 place_at f width heads column within = get_or_append_left (map f heads) (width ∷ []) 0 column (subst (λ n. column < n) (sym (length-map heads f)) within) ∙ read_map f heads column within
 
-place_count : (f : ℕ → ℕ) (width : ℕ) (heads : List ℕ) → length (map f heads ++ width ∷ []) ≡ length heads + 1
+pub place_count : (f : ℕ → ℕ) (width : ℕ) (heads : List ℕ) → length (map f heads ++ width ∷ []) ≡ length heads + 1
 place_count f width heads = length-append (map f heads) (width ∷ []) ∙ ap (λ n. n + 1) (length-map heads f)
 
-shown_by : (f : ℕ → ℕ) (width : ℕ) (heads : List ℕ) (place : ℕ) (column : ℕ) → column < length heads → f (get_or heads column 0) ≡ place → IsShown (map f heads ++ width ∷ []) place
+pub shown_by : (f : ℕ → ℕ) (width : ℕ) (heads : List ℕ) (place : ℕ) (column : ℕ) → column < length heads → f (get_or heads column 0) ≡ place → IsShown (map f heads ++ width ∷ []) place
 shown_by f width heads place column within is = record {
   column = column;
   within = omega (arith, place_count f width heads, within);
   is = place_at f width heads column within ∙ is;
 }
 
-right_shown : (f : ℕ → ℕ) (width : ℕ) (heads : List ℕ) → IsShown (map f heads ++ width ∷ []) width
+pub right_shown : (f : ℕ → ℕ) (width : ℕ) (heads : List ℕ) → IsShown (map f heads ++ width ∷ []) width
 right_shown f width heads = record {
   column = length heads;
   within = omega (arith, place_count f width heads);
@@ -73,17 +73,17 @@ pivot_rows_show width own pivot leaving entering place heads target row rows k w
 
 -- ---- the pivot
 
-lengths_of : (width own pivot leaving entering place : ℕ) (heads : List ℕ) (target row : List ℤ) → ArePivotRows width own pivot leaving entering place heads target row → length target ≡ length (lent width row)
+pub lengths_of : (width own pivot leaving entering place : ℕ) (heads : List ℕ) (target row : List ℤ) → ArePivotRows width own pivot leaving entering place heads target row → length target ≡ length (lent width row)
 lengths_of width own pivot leaving entering place heads target row rows =
     rows.target_condensed.count ∙ sym (length_twice row (width + 2) (width + 1) (entry row (width + 1)) (pos 0) ∙ rows.row_condensed.count)
 
-entering_place : (width own pivot leaving entering place : ℕ) (heads : List ℕ) (target row : List ℤ) → ArePivotRows width own pivot leaving entering place heads target row → get_or (pivot_places width own pivot heads) entering 0 ≡ place
+pub entering_place : (width own pivot leaving entering place : ℕ) (heads : List ℕ) (target row : List ℤ) → ArePivotRows width own pivot leaving entering place heads target row → get_or (pivot_places width own pivot heads) entering 0 ≡ place
 entering_place width own pivot leaving entering place heads target row rows =
     place_at (pivot_place_by width own pivot) width heads entering rows.swap.entering_within
     ∙ ap (pivot_place_by width own pivot) rows.swap.entering_is
     ∙ pivot_place_below width own pivot place rows.swap.place_within
 
-entering_within : (width own pivot leaving entering place : ℕ) (heads : List ℕ) (target row : List ℤ) → ArePivotRows width own pivot leaving entering place heads target row → entering < length (pivot_places width own pivot heads)
+pub entering_within : (width own pivot leaving entering place : ℕ) (heads : List ℕ) (target row : List ℤ) → ArePivotRows width own pivot leaving entering place heads target row → entering < length (pivot_places width own pivot heads)
 entering_within width own pivot leaving entering place heads target row rows = omega (arith, place_count (pivot_place_by width own pivot) width heads, rows.swap.entering_within)
 
 pub length-combined : (target row : List ℤ) (at : ℕ) → length target ≡ length row → length (combined target row at) ≡ length target

@@ -13,7 +13,7 @@ use Rattle.condensed_laws.specs.Wholes.{whole, IsShown, ShowEach}
 use Rattle.condensed_laws.specs.Laws.{CombinedOfWholes, FitsOfWholes, PassesNowhereOfWholes}
 
 -- a column shows the entry at its place
-entry-whole : (places : List ℕ) (row : List ℤ) (column : ℕ) → column < length places → entry (whole places row) column ≡ entry row (get_or places column 0)
+pub entry-whole : (places : List ℕ) (row : List ℤ) (column : ℕ) → column < length places → entry (whole places row) column ≡ entry row (get_or places column 0)
 entry-whole [] row column within = absurd (omega arith)
 entry-whole (k ∷ places) row zero within = refl
 entry-whole (k ∷ places) row (suc column) within = entry-whole places row column (omega arith)
@@ -38,7 +38,7 @@ Divides-whole d [] row each = tt
 Divides-whole d (k ∷ places) row each = (Divides-entry d row k each, Divides-whole d places row each)
 
 -- each entry of the row is shown, or is 0
-abbrev ShowsEach : List ℕ → List ℤ → Type 0
+abbrev pub ShowsEach : List ℕ → List ℤ → Type 0
 ShowsEach places row = (k : ℕ) → k < length row → (entry row k ≡ pos 0) ⊎ IsShown places k
 
 Divides-back : (d : ℕ) (places : List ℕ) (row : List ℤ) → ShowsEach places row → Divides d (whole places row) → Divides d row
@@ -52,7 +52,7 @@ row_divisor-whole places row shows =
     let is = row_divisor_is row in
     sym (row_divisor_from (whole places row) (row_divisor row) (Divides-whole (row_divisor row) places row is.0, λ d each. is.1 d (Divides-back d places row shows each)))
 
-primitive_row-whole : (places : List ℕ) (row : List ℤ) → ShowsEach places row → primitive_row (whole places row) ≡ whole places (primitive_row row)
+pub primitive_row-whole : (places : List ℕ) (row : List ℤ) → ShowsEach places row → primitive_row (whole places row) ≡ whole places (primitive_row row)
 primitive_row-whole places row shows =
     ap (λ g. map (divided g) (whole places row)) (row_divisor-whole places row shows) ∙ divided-whole (row_divisor row) places row
 

@@ -1,11 +1,14 @@
 -- Laws of condensed rows.
 use Rattle.std.specs.Prelude.{◌≡◌, ◌↔◌, ℕ, ◌+◌, ◌<◌, List, length, slice_index, ℤ}
-use Rattle.std.specs.List.{Contains}
+use Rattle.std.specs.List.{All, Contains}
+use Rattle.row_definitions.specs.Rows.{entry, primitive_row}
+use Rattle.pivot_definitions.specs.Programs.{LinearProgram, IsProgram}
+use Rattle.pivot_definitions.specs.Tableaus.{HasFittingEntries, HasPrimitiveRows, built}
 use Rattle.pivot_definitions.specs.Laws.{kept_pivot}
-use Rattle.row_definitions.specs.Combination.{combined, FitsAt, PassesNowhere}
+use Rattle.row_definitions.specs.Combination.{combined, FitsEntry, FitsAt, PassesNowhere}
 use Rattle.condensed_laws.specs.Wholes.{whole, ShowEach}
 use Rattle.condensed_laws.specs.Heads.{places, pivot_places, lent, moved, swapped, moved_heads, CanSwap, ArePivotRows}
-use Rattle.condensed_laws.specs.Tableaus.{CondensedTableau, IsSound, expanded, condensed_pivot}
+use Rattle.condensed_laws.specs.Tableaus.{CondensedTableau, IsSound, expanded, condensed_pivot, condensed_built}
 
 -- to combine whole rows in a column gives the whole row of the combination of the condensed rows at the column's place
 abbrev pub CombinedOfWholes : Type 0
@@ -42,3 +45,22 @@ PivotOfCondensed = (t : CondensedTableau) (row column : ℕ) → IsSound t → r
 -- and it is sound
 abbrev pub PivotStaysSound : Type 0
 PivotStaysSound = (t : CondensedTableau) (row column : ℕ) → IsSound t → row < length t.basis → column < length t.heads → ¬ Contains t.basis column → IsSound (condensed_pivot t row column)
+
+-- if the entries of the whole rows fit, those of the condensed rows do
+abbrev pub CondensedRowsFit : Type 0
+CondensedRowsFit = (t : CondensedTableau) → IsSound t → HasFittingEntries (expanded t) → All (λ row. All FitsEntry row) t.rows
+
+-- if the whole rows are primitive, the condensed rows are
+abbrev pub CondensedRowsArePrimitive : Type 0
+CondensedRowsArePrimitive = (t : CondensedTableau) → IsSound t → HasPrimitiveRows (expanded t) → All (λ row. primitive_row row ≡ row) t.rows
+
+-- as it is lent, the pivot row fits and is primitive if its whole row is so, and has at the place the whole row's entry in the entering column
+abbrev pub LentRowIsLikeWhole : Type 0
+LentRowIsLikeWhole = (width own pivot leaving entering place : ℕ) (heads : List ℕ) (target row : List ℤ) → ArePivotRows width own pivot leaving entering place heads target row
+    → (All FitsEntry (whole (places width pivot heads) row) → All FitsEntry (lent width row))
+    × (primitive_row (whole (places width pivot heads) row) ≡ whole (places width pivot heads) row → primitive_row (lent width row) ≡ lent width row)
+    × (entry (lent width row) place ≡ entry (whole (places width pivot heads) row) entering)
+
+-- the condensed tableau of a program as built stands for the tableau as built, and is sound
+abbrev pub BuiltOfCondensed : Type 0
+BuiltOfCondensed = (program : LinearProgram) → IsProgram program → (expanded (condensed_built program) ≡ built program) × IsSound (condensed_built program)

@@ -1,5 +1,7 @@
 -- A tableau whose rows are condensed, the tableau that it stands for, and its pivots.
-use Rattle.std.specs.Prelude.{◌≡◌, ℕ, suc, ◌+◌, ◌<◌, List, [], ◌∷◌, length, slice_index, slice_index_or, slice_set, ℤ, pos}
+use Rattle.std.specs.Prelude.{◌≡◌, ℕ, suc, ◌+◌, ◌<◌, List, [], ◌∷◌, ◌++◌, length, map, replicate, slice_index, slice_index_or, slice_set, ℤ, pos}
+use Rattle.std.specs.List.{range_with_len}
+use Rattle.pivot_definitions.specs.Programs.{LinearProgram, coefficient_row}
 use Rattle.row_definitions.specs.Rows.{entry}
 use Rattle.row_definitions.specs.Combination.{combined}
 use Rattle.pivot_definitions.specs.Tableaus.{SimplexTableau, others_combined}
@@ -53,3 +55,20 @@ condensed_pivot t row column =
       basis = slice_set t.basis row column;
       heads = moved_heads t.columns row (slice_index t.basis row) column place t.heads;
     }
+
+-- a constraint row as built: the coefficients, the right side, and 1 in its own slack column
+abbrev pub condensed_built_row : LinearProgram → ℕ → List ℤ
+condensed_built_row program row = coefficient_row program row ++ entry program.right_sides row ∷ pos 1 ∷ pos 0 ∷ []
+
+-- the objective row as built: 1 in column 0 and 0 elsewhere
+abbrev pub condensed_built_objective : LinearProgram → List ℤ
+condensed_built_objective program = pos 1 ∷ replicate (program.columns + 2) (pos 0)
+
+-- the condensed tableau as built: the slack columns are basic, so each column is its own head
+abbrev pub condensed_built : LinearProgram → CondensedTableau
+condensed_built program = record {
+  columns = program.columns;
+  rows = map (condensed_built_row program) (range_with_len 0 program.rows) ++ condensed_built_objective program ∷ [];
+  basis = range_with_len program.columns program.rows;
+  heads = range_with_len 0 (program.columns + program.rows);
+}

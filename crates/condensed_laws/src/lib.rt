@@ -12,7 +12,7 @@
 //! - `tableau_law`: a pivot of a condensed tableau is one of the tableau that it stands for.
 #![tactic(auto)]
 
-ghost use Rattle.condensed_laws.specs.Laws.{CombinedOfWholes, FitsOfWholes, PassesNowhereOfWholes, TargetOfPivot, PivotRowStays, PivotPassesNowhere, PivotFitsAt, PivotOfCondensed, PivotStaysSound};
+ghost use Rattle.condensed_laws.specs.Laws.{CombinedOfWholes, FitsOfWholes, PassesNowhereOfWholes, TargetOfPivot, PivotRowStays, PivotPassesNowhere, PivotFitsAt, LentRowIsLikeWhole, BuiltOfCondensed, PivotOfCondensed, PivotStaysSound, CondensedRowsFit, CondensedRowsArePrimitive};
 
 /// Two condensed rows with the same places, which show each entry that is not 0 in both. The combination of their whole
 /// rows is the whole row of their combination, and the one passes 128 bits in a column just where the other does at the
@@ -31,11 +31,16 @@ pub fn pivot_law()
     ensures pivot_row { PivotRowStays }
     ensures passes_nowhere { PivotPassesNowhere }
     ensures fits { PivotFitsAt }
+    ensures lent { LentRowIsLikeWhole }
 {}
 
-/// A condensed tableau that is sound stands, after a pivot in a column that is not basic, for the pivot of the tableau that it
-/// stood for, and is sound.
+/// The condensed tableau of a program stands for the tableau as built, and is sound. A sound one stands, after a pivot in a
+/// column that is not basic, for the pivot of the tableau that it stood for, and is sound. Its rows fit and are primitive if
+/// the whole rows do and are.
 pub fn tableau_law()
+    ensures built { BuiltOfCondensed }
     ensures pivot { PivotOfCondensed }
     ensures sound { PivotStaysSound }
+    ensures fits { CondensedRowsFit }
+    ensures primitive { CondensedRowsArePrimitive }
 {}
