@@ -1,5 +1,5 @@
 -- The condensed tableau as built.
-use Rattle.std.proofs.Common.{◌≡◌, ◌≢◌, ℕ, zero, suc, ◌+◌, ◌-◌, ◌<◌, ◌≤◌, ◌⊎◌, inl, inr, List, [], ◌∷◌, ◌++◌, length, map, get_or, replicate, ℤ, pos, refl, sym, ap, ap₂, subst, ◌∙◌, arith}
+use Rattle.std.proofs.Common.{◌≡◌, ℕ, zero, suc, ◌+◌, ◌-◌, ◌<◌, ◌≤◌, ◌⊎◌, inl, inr, List, [], ◌∷◌, length, map, get_or, replicate, ℤ, pos, refl, sym, ap, subst, ◌∙◌, arith}
 use Rattle.std.specs.List.{range_with_len}
 use Rattle.std.proofs.lemmas.List.{length-map, length-append, length-replicate, get_or_append_left, get_or-append_right, get_or_at, ext_get_or}
 use Rattle.std.proofs.lemmas.List.FromFn.{length-map-range_with_len, get_or-range_with_len, get_or-map-range_with_len}
@@ -8,9 +8,9 @@ use Rattle.pivot_definitions.specs.Programs.{LinearProgram, IsProgram, coefficie
 use Rattle.pivot_definitions.specs.Tableaus.{SimplexTableau, built, built_row, built_objective}
 use Rattle.pivot_definitions.proofs.Built.{length-range, length-coefficients, length-built_row, length-built_objective, built_slack, unit_here}
 use Rattle.pivot_definitions.proofs.Start.{unit_elsewhere, built_coefficient, built_right_side, row_built, objective_built}
-use Rattle.condensed_laws.specs.Wholes.{whole, IsShown}
+use Rattle.condensed_laws.specs.Wholes.{whole}
 use Rattle.condensed_laws.specs.Heads.{place_by, places, IsCondensed}
-use Rattle.condensed_laws.specs.Tableaus.{CondensedTableau, wholes, expanded, condensed_row, IsSound, condensed_built_row, condensed_built_objective, condensed_built}
+use Rattle.condensed_laws.specs.Tableaus.{expanded, condensed_row, IsSound, condensed_built_row, condensed_built_objective, condensed_built}
 use Rattle.condensed_laws.specs.Laws.{BuiltOfCondensed}
 use Rattle.condensed_laws.proofs.Wholes.{entry-whole, entry_past, below_or}
 use Rattle.condensed_laws.proofs.Heads.{place_below, place_own, place_other}

@@ -1,5 +1,5 @@
 -- What holds of a whole row holds of the condensed row whose entries it shows.
-use Rattle.std.proofs.Common.{◌≡◌, ◌≢◌, ℕ, ◌+◌, ◌<◌, ◌≤◌, ◌⊎◌, inl, inr, List, [], length, map, get_or, ℤ, pos, refl, sym, ap, subst, ◌∙◌, arith, lit<, All}
+use Rattle.std.proofs.Common.{◌≡◌, ℕ, ◌+◌, ◌<◌, ◌≤◌, ◌⊎◌, inl, inr, List, [], length, get_or, ℤ, pos, sym, ap, subst, ◌∙◌, arith, lit<, All}
 use Rattle.std.proofs.lemmas.List.{length-map, ext_get_or}
 use Rattle.std.proofs.lemmas.List.Elements.{All-from_get_or}
 use Rattle.row_definitions.specs.Rows.{entry, row_divisor, divided, primitive_row}
@@ -7,8 +7,8 @@ use Rattle.row_definitions.specs.Combination.{FitsEntry}
 use Rattle.row_definitions.proofs.Numbers.{divided-zero}
 use Rattle.row_definitions.proofs.Combinations.{entry-divided}
 use Rattle.condensed_laws.specs.Wholes.{whole, IsShown}
-use Rattle.condensed_laws.specs.Heads.{place_by, places, pivot_places, lent, ArePivotRows}
-use Rattle.condensed_laws.specs.Tableaus.{CondensedTableau, condensed_row, expanded, IsSound}
+use Rattle.condensed_laws.specs.Heads.{place_by, places, pivot_places, lent}
+use Rattle.condensed_laws.specs.Tableaus.{CondensedTableau, condensed_row, IsSound}
 use Rattle.condensed_laws.specs.Laws.{CondensedRowsFit, CondensedRowsArePrimitive, LentRowIsLikeWhole}
 use Rattle.condensed_laws.proofs.Wholes.{ShowsEach, entry-whole, primitive_row-whole, below_or}
 use Rattle.condensed_laws.proofs.Heads.{place_below, place_own}
