@@ -1,0 +1,11 @@
+pub mod Answers
+pub mod NumberWords
+pub mod FeedCounts
+pub mod Ranges
+pub mod FeedWords
+pub mod FaultFree
+pub mod TakenWords
+pub mod Causes
+pub mod Parsed
+pub mod OnceWords
+pub mod WorkedLines

@@ -1,0 +1,4 @@
+pub mod Stops
+pub mod Seen
+pub mod Words
+pub mod Report

@@ -1,0 +1,4 @@
+mod Orders
+mod Matches
+mod Through
+mod Boards
