@@ -9,3 +9,6 @@ pub mod Lists
 pub mod Picks
 pub mod Start
 pub mod Copies
+pub mod WholeSheets
+pub mod ShortHistories
+pub mod CheckedFeeds

@@ -2,3 +2,4 @@ pub mod Books
 pub mod Views
 pub mod Kept
 pub mod Answers
+pub mod Parts
