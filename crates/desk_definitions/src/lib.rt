@@ -7,6 +7,7 @@
 
 mod desk_end;
 mod feed_end;
+pub mod status;
 
 pub use desk_end::DeskEnd;
 pub use feed_end::FeedEnd;
