@@ -1,5 +1,5 @@
 -- Why a run has its status, in the words of its causes.
-use Rattle.std.specs.Prelude.{ℕ, ◌≡◌, ◌≢◌, ◌<◌, ◌+◌, ◌⊎◌, false, List, [], ◌∷◌, ◌++◌, length, map, Option, Some, None, IsSome, All, AllPairs, Any}
+use Rattle.std.specs.Prelude.{ℕ, ◌≡◌, ◌≢◌, ◌<◌, ◌+◌, ◌⊎◌, false, List, [], ◌∷◌, ◌++◌, length, Option, Some, None, IsSome, All, AllPairs, Any}
 use Rattle.std.specs.Io.KnownBytes.{Appends}
 use Rattle.outside_definitions.specs.Faults.{Rose}
 use Rattle.feed_text.specs.declared.header.Header.{Header}
@@ -17,6 +17,10 @@ use Rattle.desk_definitions.specs.Course.{HasReport, Outcome}
 -- the status is this one, or gives way to a failed write or to want of memory
 abbrev pub IsOrYields : ℕ → ℕ → Type 0
 IsOrYields due status = (status ≡ due) ⊎ ((status ≡ NOT_WRITTEN) ⊎ (status ≡ WANT_OF_MEMORY))
+
+-- no fault was counted: the count did not rise, and is not at its type's end, where it stands still
+abbrev pub HasNotRisen : ℕ → ℕ → Type 0
+HasNotRisen old new = Rose old new → ⊥
 
 module _ {S : Type 0} where
   -- all named feeds were begun, each has a header, and they are of different books: their bodies were read
@@ -60,10 +64,6 @@ module _ {S : Type 0} where
     pub has : HasReport left faults told names budget out due
     pub ended : All (λ end. end.stop ≡ stops.End) out.ends
     pub written : Appends sink.written_before sink.written_after due.text
-
-  -- no fault was counted: the count did not rise, and is not at its type's end, where it stands still
-  abbrev pub HasNotRisen : ℕ → ℕ → Type 0
-  HasNotRisen old new = Rose old new → ⊥
 
   -- no opening failed, or the opener promised that one fails only under a name that has no source left; no read of the feeds that were
   -- begun failed, and no write
