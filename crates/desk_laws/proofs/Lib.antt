@@ -1,2 +1,4 @@
 pub mod Ends
 pub mod Sorts
+pub mod Texts
+pub mod GoodFeeds
