@@ -1,0 +1,4 @@
+mod Through
+mod Stands
+mod Takes
+mod Accepts
