@@ -1,1 +1,4 @@
 pub mod Comparisons
+pub mod ProgramTables
+pub mod Asked
+pub mod Starts

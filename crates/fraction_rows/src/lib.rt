@@ -18,6 +18,7 @@ mod writing;
 pub use bits::bit_length;
 pub use combination::{Passed, combine, combine_within, content_bound, first_passing};
 pub use division::primitive;
+pub use divisor::common_divisor;
 
 #[cfg(test)]
 mod plain;
