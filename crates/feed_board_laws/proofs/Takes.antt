@@ -25,7 +25,8 @@ use Rattle.board_definitions.specs.Sheets.{stands, standing_count}
 use Rattle.board_definitions.specs.Legal.{IsLater, IsOpenFeed}
 use Rattle.board_definitions.proofs.Counts.{count_le}
 use Rattle.report_text_laws.specs.Boards.{line_in}
-use Rattle.feed_board_laws.specs.Bodies.{lines_in, HoldsLines, HasLimit, IsAcceptedAfter, key_of, change_event, entry_of, MayTake}
+use Rattle.desk_definitions.specs.Lines.{key_of, event_of, entry_of}
+use Rattle.feed_board_laws.specs.Bodies.{lines_in, HoldsLines, HasLimit, IsAcceptedAfter, MayTake}
 use Rattle.feed_board_laws.proofs.Stands.{same_stands}
 
 -- a line comes later than the entries if it does than their lines
@@ -122,7 +123,7 @@ at_own : (k : ℕ) (line : Accepted) → cond (k == k) (Some line) None ≡ Some
 at_own k line = ap (λ (b : Bool). cond b (Some line) None) ((Decides-eqb k k).1 refl)
 
 own_line : (k : ℕ) (m : List ℕ) (selection : Selection) (number : ℕ) (change : Change) →
-    line_in k (change_event (record { feed = k; match_name = m; selection = selection }) number change) ≡ Some (record { line = number; match_name = m; selection = selection; change = change })
+    line_in k (event_of (record { feed = k; match_name = m; selection = selection }) number change) ≡ Some (record { line = number; match_name = m; selection = selection; change = change })
 own_line k m selection number (Quote odds limit) = at_own k (record { line = number; match_name = m; selection = selection; change = Quote odds limit })
 own_line k m selection number Withdraw = at_own k (record { line = number; match_name = m; selection = selection; change = Withdraw })
 
@@ -133,11 +134,11 @@ at_other : (k other : ℕ) (line : Accepted) → other ≢ k → cond (k == othe
 at_other k other line differ = ap (λ (b : Bool). cond b (Some line) None) (apart k other (λ e. differ (sym e)))
 
 other_line : (k other : ℕ) (m : List ℕ) (selection : Selection) (number : ℕ) (change : Change) → other ≢ k →
-    line_in other (change_event (record { feed = k; match_name = m; selection = selection }) number change) ≡ None
+    line_in other (event_of (record { feed = k; match_name = m; selection = selection }) number change) ≡ None
 other_line k other m selection number (Quote odds limit) differ = at_other k other (record { line = number; match_name = m; selection = selection; change = Quote odds limit }) differ
 other_line k other m selection number Withdraw differ = at_other k other (record { line = number; match_name = m; selection = selection; change = Withdraw }) differ
 
-ends_none : (k feed : ℕ) (key : Key) (number : ℕ) (change : Change) → ends feed (change_event key number change) ≡ false
+ends_none : (k feed : ℕ) (key : Key) (number : ℕ) (change : Change) → ends feed (event_of key number change) ≡ false
 ends_none k feed key number (Quote odds limit) = refl
 ends_none k feed key number Withdraw = refl
 

@@ -9,8 +9,6 @@ use Rattle.feed_text.specs.declared.accepted.Change.{Change}
 use Rattle.feed_text.specs.declared.accepted.Change.TheVariants.{Quote, Withdraw}
 use Rattle.feed_text.specs.Standing.{refused_for}
 use Rattle.board_definitions.specs.declared.key.Key.{Key}
-use Rattle.board_definitions.specs.declared.event.Event.{Event}
-use Rattle.board_definitions.specs.declared.event.Event.TheVariants.{Quoted, Withdrawn}
 use Rattle.board_definitions.specs.declared.event.Entry.{Entry}
 use Rattle.board_definitions.specs.Entries.{rule_of}
 use Rattle.board_definitions.specs.Pins.{has_ended}
@@ -37,19 +35,6 @@ pub record IsAcceptedAfter (before : List Accepted) (line : Accepted) : Type 0 w
   pub later : All (λ other. other.line < line.line) before
   pub in_range : HasLimit line.change
   pub not_refused : refused_for before line.match_name (selection_number line.selection) line.change ≡ None
-
--- what the line is about, in the feed of this number
-abbrev pub key_of : ℕ → Accepted → Key
-key_of feed line = record { feed = feed; match_name = line.match_name; selection = line.selection }
-
--- the event by which a change enters the board
-abbrev pub change_event : Key → ℕ → Change → Event
-change_event key line (Quote odds limit) = Quoted key odds limit line
-change_event key line Withdraw = Withdrawn key line
-
--- the entry of an accepted line of the feed of this number
-abbrev pub entry_of : ℕ → Accepted → Entry
-entry_of feed line = record { caller = feed + 1; event = change_event (key_of feed line) line.line line.change }
 
 -- the board may take a change from the feed's caller
 abbrev pub MayTake : List (Option VoidRule) → List Entry → Key → ℕ → Change → Type 0

@@ -7,7 +7,8 @@ use Rattle.feed_text.specs.Feed.{steps, accepted_in}
 use Rattle.feed_text.specs.Standing as text
 use Rattle.board_definitions.specs.declared.event.Entry.{Entry}
 use Rattle.board_definitions.specs.Sheets.{stands}
-use Rattle.feed_board_laws.specs.Bodies.{lines_in, HoldsLines, IsAcceptedAfter, key_of, entry_of, MayTake}
+use Rattle.desk_definitions.specs.Lines.{key_of, entry_of}
+use Rattle.feed_board_laws.specs.Bodies.{lines_in, HoldsLines, IsAcceptedAfter, MayTake}
 
 -- what stands after the lines of a feed stands after their entries
 abbrev pub SameStands : Type 0
