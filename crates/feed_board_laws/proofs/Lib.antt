@@ -1,4 +1,4 @@
 mod Through
-mod Stands
-mod Takes
-mod Accepts
+pub mod Stands
+pub mod Takes
+pub mod Accepts
