@@ -3,12 +3,12 @@ ghost use Rattle.std.specs.Prelude.{◌≡◌, ◌+◌, ◌<◌, ◌≤◌, [], 
 ghost use Rattle.std.specs.Io.KnownBytes.{IsAtEnd};
 ghost use Rattle.scan_types.specs.declared.limits.TheConstants.{MOST_LINES};
 ghost use Rattle.desk_io.specs.Faults.{Rose};
-ghost use Rattle.feed_text.specs.declared.step.Step.TheVariants as step;
+ghost use Rattle.feed_text.specs.declared.step.Step.TheVariants as any;
 ghost use Rattle.feed_text.specs.Lines.{ended_lines};
 ghost use Rattle.feed_text.specs.Feed.{accepted_in};
 ghost use Rattle.feed_text.specs.Answers.{ends_feed};
 ghost use Rattle.feed_reader.specs.Taking.{GoesOn};
-ghost use Rattle.feed_reader.specs.Reader.{IsAtLine, IsReadOut, StandsSo, its_steps, answered, is_read_fault, is_of_line, drained_by, failed_by};
+ghost use Rattle.feed_reader.specs.Reader.{IsAtLine, IsReadOut, StandsSo, its_steps, answered, is_read_fault, is_of_line, drained_by, failed_by, IsNumbered, IsInRange, IsWhole};
 
 use crate::answer::answer;
 use crate::next_line::NextLine;
@@ -22,12 +22,7 @@ use std::alloc::Global;
 use std::marker::Model;
 
 /// How the next line stands. Once a read has answered that no bytes are left, none is made.
-fn found_next<S: Source>(
-    taken: &mut Taken,
-    source: &mut S,
-    lines: u32,
-    drained: bool,
-) -> NextLine
+fn found_next<S: Source>(taken: &mut Taken, source: &mut S, lines: u32, drained: bool) -> NextLine
     requires room { 4198400 ≤ vec_capacity taken.old.bytes }
     requires few_lines { lines ≤ MOST_LINES }
     requires at_line { drained ≡ false → IsAtLine taken.old.bytes.items taken.old.start lines }
@@ -51,15 +46,15 @@ fn found_next<S: Source>(
 }
 
 /// Whether a read has answered that no bytes are left.
-fn is_drained(found: NextLine) -> bool
-    ensures { result ≡ drained_by found }
+fn is_drained(found: &NextLine) -> bool
+    ensures { result ≡ drained_by found.now }
 {
     matches!(found, NextLine::Last | NextLine::End)
 }
 
 /// Whether nothing follows the step.
-fn ends_feed(step: Step) -> bool
-    ensures { result ≡ ends_feed step }
+fn ends_feed(step: &Step) -> bool
+    ensures { result ≡ ends_feed step.now }
 {
     matches!(
         step,
@@ -68,8 +63,8 @@ fn ends_feed(step: Step) -> bool
 }
 
 /// Whether the step is for a line.
-fn is_of_line(step: Step) -> bool
-    ensures { result ≡ is_of_line step }
+fn is_of_line(step: &Step) -> bool
+    ensures { result ≡ is_of_line step.now }
 {
     !matches!(step, Step::End | Step::Cut | Step::ReadFault)
 }
@@ -160,6 +155,12 @@ impl<S: Source + Drop> FeedReader<S> {
         ensures goes_on { OnOk result (GoesOn (S.left self.old.source) (S.left self.new.source) self.old.taken self.new.taken
             (S.faults self.old.source) (S.faults self.new.source) (S.later self.old.source self.new.source) (S.never_fails self.old.source → S.never_fails self.new.source)) }
         ensures drained { OnOk result (self.old.drained ≡ false → self.new.drained ≡ true → IsAtEnd (S.left self.new.source)) }
+        ensures drained_stays { OnOk result (self.old.drained ≡ true →
+            (self.new.drained ≡ true) × (self.new.taken ≡ self.old.taken) × (self.new.source ≡ self.old.source)) }
+        ensures end { IfOk result (λ step. step ≡ any.End → self.new.drained ≡ true) }
+        ensures whole { IfOk result (λ step. ends_feed step ≡ true → is_read_fault step ≡ false → self.new.drained ≡ false → IsWhole self.new.taken) }
+        ensures numbered { IfOk result (IsNumbered (self.old.answers + 1)) }
+        ensures in_range { IfOk result IsInRange }
         ensures no_read { OnOk result (self.old.answers < length (ended_lines self.old.taken) → (self.new.taken ≡ self.old.taken) × (self.new.source ≡ self.old.source)) }
         ensures fault { IfOk result (λ step. is_read_fault step ≡ true → Rose (S.faults self.old.source) (S.faults self.new.source)) }
         ensures promised { S.never_fails self.old.source → IfOk result (λ step. is_read_fault step ≡ false) }
@@ -174,11 +175,12 @@ impl<S: Source + Drop> FeedReader<S> {
             self.answers,
             self.drained,
         );
+        let drained = is_drained(&found);
         let step = answer(found, self.answers, &mut self.taken, &mut self.standing);
         self.answers += 1;
-        self.drained = is_drained(found);
-        self.ended = !is_of_line(step);
-        self.over = ends_feed(step);
+        self.drained = drained;
+        self.ended = !is_of_line(&step);
+        self.over = ends_feed(&step);
         Ok(step)
     }
 }
