@@ -1,5 +1,5 @@
 -- What a step behind the header says of its feed.
-use Rattle.std.proofs.Common.{ℕ, ◌≡◌, ◌+◌, ◌<◌, ◌≤◌, Bool, true, false, cond, List, [], ◌∷◌, ◌++◌, length, take, slice_get, refl, sym, ap, ◌∙◌, arith, zero, suc, append-nil}
+use Rattle.std.proofs.Common.{ℕ, ◌≡◌, ◌+◌, ◌<◌, ◌≤◌, Bool, true, false, cond, List, [], ◌∷◌, ◌++◌, length, slice_get, refl, sym, ap, ◌∙◌, arith, zero, suc, append-nil}
 use Rattle.std.specs.Prelude.{Option, Some, None, Result, Ok, Err, min}
 use Rattle.std.proofs.lemmas.List.{length-take}
 use Rattle.scan_types.specs.declared.limits.TheConstants.{MOST_LINES}
@@ -123,7 +123,7 @@ few_lines e before k [] = omega arith
 few_lines e before k (l ∷ lines) = let rest = few_lines e (before ++ accepted_in (line_answer before k l ∷ [])) (suc k) lines in omega (arith, rest)
 
 few_open : (e : Step) (r : Result Header Fault) (lines : List (List ℕ)) →
-    length (elim r [ Err fault ↦ step.BadHeader (refusal 1 fault) ∷ [] | Ok header ↦ step.Header header ∷ line_steps e [] 2 lines ]) ≤ length lines + 2
+    length {A = Step} (elim r [ Err fault ↦ step.BadHeader (refusal 1 fault) ∷ [] | Ok header ↦ step.Header header ∷ line_steps e [] 2 lines ]) ≤ length lines + 2
 few_open e (Err fault) lines = omega arith
 few_open e (Ok header) lines = let rest = few_lines e [] 2 lines in omega (arith, rest)
 

@@ -1,5 +1,5 @@
 -- What reading the body of a feed adds to a board, and how the feed ends.
-use Rattle.std.specs.Prelude.{ℕ, ◌≡◌, ◌≢◌, ◌+◌, ◌<◌, Bool, true, false, List, [], ◌∷◌, ◌++◌, length, Option, Some, None, if◌then◌else◌}
+use Rattle.std.specs.Prelude.{ℕ, ◌≡◌, ◌≢◌, ◌+◌, ◌<◌, true, false, List, [], ◌∷◌, ◌++◌, length, Option, Some, None, if◌then◌else◌}
 use Rattle.std.specs.Io.KnownBytes.{IsAtEnd}
 use Rattle.feed_text.specs.declared.accepted.Accepted.{Accepted}
 use Rattle.feed_text.specs.declared.cause.Refusal.{Refusal}
@@ -63,6 +63,10 @@ module _ {S : Type 0} (left : S → Option (List ℕ)) where
     pub holds : HoldsLines now.fixed.rules now.history feed (accepted_in (answered reader))
     pub added : now ≡ with_entries before (entries_of feed (accepted_in (answered reader)))
     pub kept : refusals ≡ refused_in (answered reader)
+
+  -- between two steps of a feed, whatever its header, and whatever was on the board before
+  abbrev pub IsSomewhere : {W : Type 0} → ℕ → BoardView W → List Refusal → ReaderView S → Type 0
+  IsSomewhere {W} feed now refusals reader = (header : Header) × (before : BoardView W) × IsBetween feed header before now refusals reader
 
   module _ (faults : S → ℕ) where
     -- after the last step: these steps of lines were answered, and these accepted lines are on the board

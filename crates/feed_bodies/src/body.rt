@@ -1,18 +1,47 @@
 //! The lines of a feed behind its header, up to the end of the feed or to what stops it before.
 
-ghost use Rattle.std.specs.Prelude.{◌≡◌, ◌<◌, Option};
+ghost use Rattle.std.specs.Prelude.{◌≡◌, ◌<◌, ◌+◌, MatchOption, IfNone};
 ghost use Rattle.scan_types.specs.declared.limits.TheConstants.{MOST_FEEDS};
-ghost use Rattle.feed_bodies.specs.Bodies.{IsBegun, IsReadyFor, IsOver, IsBodyRead, ReadsOn};
+ghost use Rattle.feed_text.specs.declared.header.Header.{Header};
+ghost use Rattle.quote_board.specs.Views.{BoardView};
+ghost use Rattle.feed_bodies.specs.Bodies.{IsBegun, IsReadyFor, IsBetween, IsSomewhere, IsOver, IsBodyRead, ReadsOn};
 
 use crate::taking::{stop_of, take_step};
 use board_definitions::{FeedStop, Law};
 use desk_definitions::FeedEnd;
 use desk_io::Source;
 use feed_reader::FeedReader;
-use feed_text::{Header, Refusal};
+use feed_text::{Header as HeaderLine, Refusal};
 use quote_board::Board;
 use report_text::Refusals;
 use std::alloc::Global;
+
+/// Takes the next step of the feed, and returns how the feed stopped, if it did.
+fn take_next<W: Law, S: Source + Drop>(
+    board: &mut Board<W>,
+    refusals: &mut Vec<Refusal>,
+    feed: u8,
+    reader: &mut FeedReader<S>,
+) -> Option<FeedStop>
+    requires number { feed < MOST_FEEDS }
+    requires between { IsSomewhere S.left feed board.old refusals.old.items reader.old }
+    ensures stop { (header : Header) (before : BoardView W) → IsBetween S.left feed header before board.old refusals.old.items reader.old →
+        MatchOption result (IsBetween S.left feed header before board.new refusals.new.items reader.new)
+        (λ stop. IsOver S.left S.faults feed header before board.new refusals.new.items reader.new stop) }
+    ensures counted { IfNone result (reader.new.answers ≡ reader.old.answers + 1) }
+    ensures goes_on { ReadsOn S.left S.faults S.later S.never_fails reader.old reader.new }
+{
+    match reader.next() {
+        Ok(step) => match stop_of(&step) {
+            Some(stop) => Some(stop),
+            None => match take_step(board, refusals, feed, &step) {
+                Ok(()) => None,
+                Err(_) => Some(FeedStop::NoMemory),
+            },
+        },
+        Err(_) => Some(FeedStop::NoMemory),
+    }
+}
 
 /// Reads the lines behind the header, and returns those that were refused, and how the feed stopped. Each accepted line becomes an entry
 /// of the board.
@@ -20,7 +49,7 @@ fn read_lines<W: Law, S: Source + Drop>(
     alloc: Global,
     board: &mut Board<W>,
     feed: u8,
-    header: &Header,
+    header: &HeaderLine,
     reader: &mut FeedReader<S>,
 ) -> (Vec<Refusal>, FeedStop)
     requires number { feed < MOST_FEEDS }
@@ -31,15 +60,8 @@ fn read_lines<W: Law, S: Source + Drop>(
 {
     let mut refusals = Vec::new(alloc);
     loop {
-        let step = match reader.next() {
-            Ok(step) => step,
-            Err(_) => return (refusals, FeedStop::NoMemory),
-        };
-        if let Some(stop) = stop_of(step) {
+        if let Some(stop) = take_next(board, &mut refusals, feed, reader) {
             return (refusals, stop);
-        }
-        if take_step(board, &mut refusals, feed, step).is_err() {
-            return (refusals, FeedStop::NoMemory);
         }
     }
 }
@@ -54,7 +76,7 @@ pub fn read_body<W: Law, S: Source + Drop>(
     alloc: Global,
     board: &mut Board<W>,
     feed: u8,
-    header: Header,
+    header: HeaderLine,
     reader: FeedReader<S>,
 ) -> FeedEnd<S>
     requires number { feed < MOST_FEEDS }

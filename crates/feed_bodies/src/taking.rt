@@ -16,18 +16,15 @@ use quote_board::Board;
 use scan_types::WantOfMemory;
 
 /// How the feed stops at the step, if it does.
-pub(crate) fn stop_of(step: Step) -> Option<FeedStop>
-    ensures { result ≡ stop_of step }
+pub(crate) fn stop_of(step: &Step) -> Option<FeedStop>
+    ensures { result ≡ stop_of step.now }
 {
     match step {
         Step::End => Some(FeedStop::End),
         Step::Cut => Some(FeedStop::Cut),
         Step::ReadFault => Some(FeedStop::ReadFault),
-        Step::Header(_)
-        | Step::BadHeader(_)
-        | Step::Line(_)
-        | Step::Refused(_)
-        | Step::Skipped => None,
+        Step::Header(_) | Step::BadHeader(_) | Step::Line(_) | Step::Refused(_) | Step::Skipped =>
+            None,
     }
 }
 
@@ -56,20 +53,20 @@ pub(crate) fn take_step<W: Law>(
     board: &mut Board<W>,
     refusals: &mut Vec<Refusal>,
     feed: u8,
-    step: Step,
+    step: &Step,
 ) -> Result<(), WantOfMemory>
     requires number { feed < MOST_FEEDS }
     requires holds { HoldsLines board.old.fixed.rules board.old.history feed (lines_in board.old.history feed) }
-    requires accepted { (line : AcceptedLine) → step ≡ answer.Line line → IsAcceptedAfter (lines_in board.old.history feed) line }
-    ensures added { OnOk result (board.new ≡ with_entries board.old (entries_of feed (accepted_in (step ∷ [])))) }
-    ensures kept { OnOk result (refusals.new.items ≡ refusals.old.items ++ refused_in (step ∷ [])) }
+    requires accepted { (line : AcceptedLine) → step.now ≡ answer.Line line → IsAcceptedAfter (lines_in board.old.history feed) line }
+    ensures added { OnOk result (board.new ≡ with_entries board.old (entries_of feed (accepted_in (step.now ∷ [])))) }
+    ensures kept { OnOk result (refusals.new.items ≡ refusals.old.items ++ refused_in (step.now ∷ [])) }
     ensures unchanged { OnErr result (board.new ≡ board.old) }
     ensures kept_before { OnErr result (refusals.new.items ≡ refusals.old.items) }
 {
     match step {
-        Step::Line(line) => add_line(board, feed, line),
+        Step::Line(line) => add_line(board, feed, *line),
         Step::Refused(refusal) => {
-            refusals.push(refusal)?;
+            refusals.push(*refusal)?;
             Ok(())
         }
         Step::Header(_)

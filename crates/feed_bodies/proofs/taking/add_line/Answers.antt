@@ -1,4 +1,4 @@
-use Rattle.std.proofs.Common.{◌≡◌, subst}
+use Rattle.std.proofs.Common.{subst}
 use Rattle.feed_text.specs.declared.accepted.Change.{Change}
 use Rattle.desk_definitions.specs.Lines.{key_of}
 use Rattle.feed_board_laws.specs.Bodies.{lines_in, MayTake}
