@@ -1,6 +1,7 @@
 //! The lines of a feed behind its header, up to the end of the feed or to what stops it before.
 
-ghost use Rattle.std.specs.Prelude.{◌≡◌, ◌<◌, ◌+◌, MatchOption, IfNone};
+ghost use Rattle.std.specs.Prelude.{◌≡◌, ◌≢◌, ◌<◌, ◌+◌, Some, MatchOption, IfNone};
+ghost use Rattle.board_definitions.specs.declared.event.FeedStop.TheVariants.{ReadFault};
 ghost use Rattle.scan_types.specs.declared.limits.TheConstants.{MOST_FEEDS};
 ghost use Rattle.feed_text.specs.declared.header.Header.{Header};
 ghost use Rattle.quote_board.specs.Views.{BoardView};
@@ -29,6 +30,7 @@ fn take_next<W: Law, S: Source + Drop>(
         MatchOption result (IsBetween S.left feed header before board.new refusals.new.items reader.new)
         (λ stop. IsOver S.left S.faults feed header before board.new refusals.new.items reader.new stop) }
     ensures counted { IfNone result (reader.new.answers ≡ reader.old.answers + 1) }
+    ensures promised { S.never_fails reader.old.source → result ≢ Some ReadFault }
     ensures goes_on { ReadsOn S.left S.faults S.later S.never_fails reader.old reader.new }
 {
     match reader.next() {
@@ -56,6 +58,7 @@ fn read_lines<W: Law, S: Source + Drop>(
     requires board { IsReadyFor board.old feed header.now }
     requires reader { IsBegun S.left feed header.now reader.old }
     ensures over { IsOver S.left S.faults feed header.now board.old board.new result.0.items reader.new result.1 }
+    ensures promised { S.never_fails reader.old.source → result.1 ≢ ReadFault }
     ensures goes_on { ReadsOn S.left S.faults S.later S.never_fails reader.old reader.new }
 {
     let mut refusals = Vec::new(alloc);
@@ -82,7 +85,8 @@ pub fn read_body<W: Law, S: Source + Drop>(
     requires number { feed < MOST_FEEDS }
     requires board { IsReadyFor board.old feed header }
     requires reader { IsBegun S.left feed header reader }
-    ensures { IsBodyRead S.left S.faults S.later S.never_fails feed header reader result board.old board.new }
+    ensures body { IsBodyRead S.left S.faults S.later S.never_fails feed header reader result board.old board.new }
+    ensures promised { S.never_fails reader.source → result.stop ≢ ReadFault }
 {
     let mut reader = reader;
     let (refusals, stop) = read_lines(alloc, board, feed, &header, &mut reader);
