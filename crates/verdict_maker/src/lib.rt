@@ -16,3 +16,6 @@ mod turns;
 
 pub use bench::{Bench, judge};
 pub use law::FindingLaw;
+
+#[cfg(test)]
+mod tests;
