@@ -7,6 +7,7 @@ use Rattle.std.specs.declared.cmp.Ordering.TheVariants as ordering
 use Rattle.scan_types.specs.declared.offer.Offer.{Offer}
 use Rattle.number_definitions.specs.Spellings.{odds_text}
 use Rattle.finding_definitions.specs.Text.{finding_text}
+use Rattle.finding_definitions.specs.declared.finding.Finding.{Finding}
 use Rattle.feed_text.specs.declared.cause.Refusal.{Refusal}
 use Rattle.judging_definitions.specs.ExactFinding.{IsFindingOf}
 use Rattle.report_text.specs.declared.feed_part.FeedPart.{FeedPart}
@@ -39,9 +40,13 @@ offer_line offer = line_of (codes "offer" ∷ decimal offer.feed ∷
 abbrev pub match_line : MatchPart → List ℕ
 match_line part = line_of (codes "match" ∷ part.match_name ∷ codes "offers" ∷ decimal (length part.sheet) ∷ [])
 
+-- finding FINDING
+abbrev pub finding_line : Finding → List ℕ
+finding_line finding = line_of (codes "finding" ∷ finding_text finding ∷ [])
+
 -- a match, each of its offers, and its finding
 abbrev pub match_lines : MatchPart → List ℕ
-match_lines part = match_line part ++ (flat_map offer_line part.sheet ++ line_of (codes "finding" ∷ finding_text part.finding ∷ []))
+match_lines part = match_line part ++ (flat_map offer_line part.sheet ++ finding_line part.finding)
 
 abbrev pub title_line : List ℕ
 title_line = line_of (codes "arbscan" ∷ codes "report" ∷ decimal 1 ∷ [])
