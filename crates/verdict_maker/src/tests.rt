@@ -24,9 +24,17 @@ fn has_stakes(finding: &Finding, stakes: &[u32]) -> bool {
     }
 }
 
+fn is_one_draw(entries: &[(Outcome, u64)]) -> bool {
+    if entries.len() != 1 {
+        return false;
+    }
+    let (outcome, weight) = entries[0];
+    outcome == Outcome::Full(0, 0) && weight == 1
+}
+
 fn is_coherent_at_a_draw(finding: &Finding) -> bool {
     match finding {
-        Finding::Coherent(measure) => { matches!(measure.items(), [(Outcome::Full(0, 0), 1)]) }
+        Finding::Coherent(measure) => is_one_draw(measure.items()),
         _ => false,
     }
 }
