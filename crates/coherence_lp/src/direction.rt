@@ -1,4 +1,4 @@
-ghost use Rattle.std.specs.Prelude.{◌≡◌, ◌≤◌, length, map, IfOk};
+ghost use Rattle.std.specs.Prelude.{◌≡◌, length, map, IfOk};
 ghost use Rattle.settlement_definitions.specs.Classes.{classes_of};
 ghost use Rattle.judging_definitions.specs.Columns.{leading_offers};
 ghost use Rattle.judging_definitions.specs.Readings.{Reads, ReadsWide, DirectionReads};

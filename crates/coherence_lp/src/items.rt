@@ -1,7 +1,7 @@
-ghost use Rattle.std.specs.Prelude.{◌≡◌, ◌<◌, ◌≤◌, length, map, pos, IfOk};
+ghost use Rattle.std.specs.Prelude.{◌≡◌, ◌≤◌, length, map, pos, IfOk};
 ghost use Rattle.std.specs.List.{All};
 ghost use Rattle.row_definitions.specs.Rows.{row_divisor};
-ghost use Rattle.scan_types.specs.declared.limits.TheConstants.{MOST_PART};
+ghost use Rattle.scan_types.specs.declared.limits.TheConstants.{MOST_OFFERS, MOST_PART};
 ghost use Rattle.judging_definitions.specs.Readings.{FirstAbove, NoneAbove};
 ghost use Rattle.coherence_lp.specs.Faults.{IfWide};
 ghost use Rattle.coherence_lp.specs.Ratios.{item_of, IsWideStake};
@@ -21,7 +21,7 @@ pub fn items_of(
     divisor: u128,
 ) -> Result<Vec<u64>, ReadingFault>
     requires stand { All (λ ratio. 1 ≤ ratio.denominator) stakes.now.ratios.items }
-    requires few { length stakes.now.ratios.items ≤ 256 }
+    requires few { length stakes.now.ratios.items ≤ MOST_OFFERS }
     requires divisor { 1 ≤ divisor }
     ensures items { IfOk result (λ items. items.items ≡ map (item_of stakes.now.denominator divisor) stakes.now.ratios.items) }
     ensures small { IfOk result (λ items. NoneAbove MOST_PART items.items) }

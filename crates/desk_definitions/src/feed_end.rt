@@ -1,6 +1,6 @@
 use board_definitions::FeedStop;
 use feed_text::Header;
-use report_text::Refusals;
+use feed_text::Refusals;
 
 /// A feed that was begun, as it was left.
 #[derive(Drop)]

@@ -14,7 +14,7 @@ use desk_io::Source;
 use feed_reader::FeedReader;
 use feed_text::{Header as HeaderLine, Refusal};
 use quote_board::Board;
-use report_text::Refusals;
+use feed_text::Refusals;
 use std::alloc::Global;
 
 /// Takes the next step of the feed, and returns how the feed stopped, if it did.
