@@ -12,9 +12,8 @@ use board_definitions::{FeedStop, Law};
 use desk_definitions::FeedEnd;
 use desk_io::Source;
 use feed_reader::FeedReader;
-use feed_text::{Header as HeaderLine, Refusal};
+use feed_text::{Header as HeaderLine, Refusal, Refusals};
 use quote_board::Board;
-use feed_text::Refusals;
 use std::alloc::Global;
 
 /// Takes the next step of the feed, and returns how the feed stopped, if it did.
