@@ -5,3 +5,11 @@ pub mod Sizes
 pub mod Picked
 pub mod Ranges
 pub mod WrittenPrograms
+pub mod EndFacts
+pub mod Divisors
+pub mod ClassWeights
+pub mod Multiples
+pub mod StakeLists
+pub mod LimitedStakes
+pub mod StakeReadings
+pub mod Fitting

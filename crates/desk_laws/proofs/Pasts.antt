@@ -28,10 +28,19 @@ use Rattle.board_definitions.specs.Sheets.{sheet, standing_sheet}
 use Rattle.desk_definitions.specs.declared.feed_end.FeedEnd.{FeedEnd}
 use Rattle.desk_definitions.specs.Lines.{event_of, key_of, entry_of, entries_of, ended_entry, body_of}
 use Rattle.desk_definitions.specs.Reads.{FeedRead}
-use Rattle.desk_definitions.specs.History.{Judged, JudgesSo, NoneIsDue, judged_entries, bodies_of}
+use Rattle.desk_definitions.specs.History.{bodies_of, findings_with}
+use Rattle.desk_definitions.specs.Judged.{pinned_entry, filed_entry, JudgesLongestDue, JudgesSoMany}
 use Rattle.desk_definitions.specs.Course.{Outcome, HasReport}
 use Rattle.desk_definitions.specs.Seen.{Due}
 use Rattle.desk_laws.specs.Histories.{is_by, IsFiledRight, IsFiledAfter, HasWholeHistory}
+
+-- a match with what was found of its sheet, and the entries of that
+record Judged : Type 0 where
+  match_name : List ℕ
+  finding : Finding
+
+abbrev judged_entries : ℕ → ℕ → Judged → List Entry
+judged_entries caller version judged = pinned_entry caller judged.match_name ∷ filed_entry caller version judged.finding ∷ []
 
 -- what holds of each entry
 abbrev Each : (Entry → Type 0) → List Entry → Type 0
@@ -229,9 +238,13 @@ module _ (right : FindingIsRight) (budget : ℕ) (rules : List (Option VoidRule)
           (λ (g : (q : ℕ) × (version ≡ length history + q) × (slice_get (judged_entries caller (length history) judged) q ≡ Some (record { caller = by; event = Pinned match_name }))). pinned_at g.0 version by match_name g.1 g.2)
           (where_is history (judged_entries caller (length history) judged) version (record { caller = by; event = Pinned match_name }) e)
 
-  sound_after : (before : List Entry) (judged : List Judged) (after : List Entry) → JudgesSo budget rules caller before judged after → IsSound before → IsSound after
-  sound_after before [] after h sound = subst (λ l. IsSound l) (sym h) sound
-  sound_after before (one ∷ judged) after h sound = sound_after (before ++ judged_entries caller (length before) one) judged after h.2 (sound_more before one h.1 sound)
+  sound_step : (before after : List Entry) → JudgesLongestDue rules (findings_with budget) caller before after → IsSound before → IsSound after
+  sound_step before after step sound =
+      subst (λ l. IsSound l) (sym step.entries) (sound_more before (record { match_name = step.match_name; finding = step.finding }) step.allowed sound)
+
+  sound_after : (n : ℕ) (before after : List Entry) → JudgesSoMany rules (findings_with budget) caller n before after → IsSound before → IsSound after
+  sound_after zero before after h sound = subst (λ l. IsSound l) (sym h) sound
+  sound_after (suc n) before after h sound = sound_step h.0 after h.2 (sound_after n before h.0 h.1 sound)
 
   -- bodies have no pin and no finding
   not_feed : (e : Event) (m : List ℕ) → is_of_feed e ≡ true → e ≡ Pinned m → ⊥
@@ -247,15 +260,18 @@ module _ (right : FindingIsRight) (budget : ℕ) (rules : List (Option VoidRule)
   }
 
   -- the judge's entries are of no feed
-  judged_by : (feed : ℕ) (before : List Entry) (judged : List Judged) (after : List Entry) → caller ≢ feed → JudgesSo budget rules caller before judged after → filter (is_by feed) after ≡ filter (is_by feed) before
-  judged_by feed before [] after other h = ap (filter (is_by feed)) h
-  judged_by feed before (one ∷ judged) after other h =
-      judged_by feed (before ++ judged_entries caller (length before) one) judged after other h.2
-      ∙ filter-append (is_by feed) before (judged_entries caller (length before) one)
-      ∙ ap (λ l. filter (is_by feed) before ++ l) (none_by feed (judged_entries caller (length before) one)
-        (each_cons (λ e. e.caller ≢ feed) (record { caller = caller; event = Pinned one.match_name }) (record { caller = caller; event = Filed (length before) one.finding } ∷ []) other
-        (each_cons (λ e. e.caller ≢ feed) (record { caller = caller; event = Filed (length before) one.finding }) [] other (none_each (λ e. e.caller ≢ feed)))))
+  judged_step : (feed : ℕ) (before after : List Entry) → caller ≢ feed → JudgesLongestDue rules (findings_with budget) caller before after → filter (is_by feed) after ≡ filter (is_by feed) before
+  judged_step feed before after other step =
+      ap (filter (is_by feed)) step.entries
+      ∙ filter-append (is_by feed) before (pinned_entry caller step.match_name ∷ filed_entry caller (length before) step.finding ∷ [])
+      ∙ ap (λ l. filter (is_by feed) before ++ l) (none_by feed (pinned_entry caller step.match_name ∷ filed_entry caller (length before) step.finding ∷ [])
+        (each_cons (λ e. e.caller ≢ feed) (pinned_entry caller step.match_name) (filed_entry caller (length before) step.finding ∷ []) other
+        (each_cons (λ e. e.caller ≢ feed) (filed_entry caller (length before) step.finding) [] other (none_each (λ e. e.caller ≢ feed)))))
       ∙ append-nil (filter (is_by feed) before)
+
+  judged_by : (feed n : ℕ) (before after : List Entry) → caller ≢ feed → JudgesSoMany rules (findings_with budget) caller n before after → filter (is_by feed) after ≡ filter (is_by feed) before
+  judged_by feed zero before after other h = ap (filter (is_by feed)) h
+  judged_by feed (suc n) before after other h = judged_step feed h.0 after other h.2 ∙ judged_by feed n before h.0 other h.1
 
 -- a pin behind a place
 get_dropped : (xs : List Entry) (n k : ℕ) → slice_get (drop n xs) k ≡ slice_get xs (n + k)
@@ -278,14 +294,14 @@ pin_is m (Released version) h = absurd (false≢true h)
 
 module _ {S : Type 0} (left : S → Option (List ℕ)) (faults : S → ℕ) (told : ℕ → Option (List ℕ)) (names budget : ℕ) (right : FindingIsRight) (out : Outcome S) (due : Due) (h : HasReport left faults told names budget out due) where
   sound : IsSound right budget h.rules (names + 1) out.history
-  sound = sound_after right budget h.rules (names + 1) (bodies_of 0 out.ends h.reads) h.judged out.history h.judges
+  sound = sound_after right budget h.rules (names + 1) h.judged.judged.0 (bodies_of 0 out.ends h.reads) out.history h.judged.judged.1
       (sound_bodies right budget h.rules (names + 1) (bodies_of 0 out.ends h.reads) (λ p e is. (bodies_each 0 out.ends h.reads p e is).1))
 
   filed_after : (match_name : List ℕ) (place : ℕ) (entry : Entry) → slice_get out.history place ≡ Some entry → changes match_name entry.event ≡ true → IsFiledAfter out.history match_name place
   filed_after match_name place entry e c = by_pins (list_any (λ entry. pins match_name entry.event) (drop place out.history)) refl
     where
       by_pins : (t : Bool) → list_any (λ entry. pins match_name entry.event) (drop place out.history) ≡ t → IsFiledAfter out.history match_name place
-      by_pins false none = absurd (h.all_judged match_name (place, record { change = subst (λ o. IsSomeAnd o (λ entry. IsTrue (changes match_name entry.event))) (sym e) c; unpinned = none }))
+      by_pins false none = absurd (h.judged.none_due match_name (place, record { change = subst (λ o. IsSomeAnd o (λ entry. IsTrue (changes match_name entry.event))) (sym e) c; unpinned = none }))
       by_pins true some =
           let a = Any-from_list_any (λ (entry : Entry). pins match_name entry.event) (drop place out.history) some in
           let at : slice_get out.history (place + a.0) ≡ Some a.1 = sym (get_dropped out.history place a.0) ∙ get_of (drop place out.history) a.0 a.1 a.2 a.3 in
@@ -313,7 +329,7 @@ module _ {S : Type 0} (left : S → Option (List ℕ)) (faults : S → ℕ) (tol
     rules = h.rules;
     bodies = h.bodies;
     each_feed = λ feed end read e f.
-        judged_by right budget h.rules (names + 1) (feed + 1) (bodies_of 0 out.ends h.reads) h.judged out.history (λ g. omega (arith, g, slice_get_within out.ends feed end e, h.bodies.all_named)) h.judges
+        judged_by right budget h.rules (names + 1) (feed + 1) h.judged.judged.0 (bodies_of 0 out.ends h.reads) out.history (λ g. omega (arith, g, slice_get_within out.ends feed end e, h.bodies.all_named)) h.judged.judged.1
         ∙ ap (λ n. filter (is_by (n + 1)) (bodies_of 0 out.ends h.reads)) {x = feed} {y = 0 + feed} (omega arith)
         ∙ bodies_by 0 feed out.ends h.reads end read e f
         ∙ ap (λ n. body_of n (accepted_in read.lines) end.stop) {x = 0 + feed} {y = feed} (omega arith);

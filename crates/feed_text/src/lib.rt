@@ -1,6 +1,6 @@
 //! The feed text: what all the bytes of a feed mean, and the types of what is read.
 //!
-//! - `header`, `accepted`, `cause`, `step`: what a reader returns.
+//! - `header`, `accepted`, `cause`, `step`: what a reader returns. `refusals`: the refused lines of a feed.
 //! - `request`: a line by itself, before what stands in the feed is looked at.
 //! - `laws`: what holds of the definitions themselves.
 //!
@@ -13,6 +13,7 @@ mod accepted;
 mod cause;
 mod header;
 mod laws;
+mod refusals;
 mod request;
 mod step;
 
@@ -23,5 +24,6 @@ pub use laws::{
     a_bad_header_ends_the_feed, a_bad_header_stays, a_cut_stays, a_step_is_of_its_line,
     steps_before_stay, the_ending_follows_the_lines,
 };
+pub use refusals::Refusals;
 pub use request::{Action, LineForm, Market, Request};
 pub use step::Step;

@@ -5,7 +5,8 @@ ghost use Rattle.std.specs.Int.{◌∣◌, IsGcd};
 ghost use Rattle.row_definitions.specs.Rows.{row_divisor, divided};
 ghost use Rattle.row_definitions.specs.Combination.{FitsEntry};
 
-// Euclid's algorithm, at half the width as soon as both numbers fit it.
+/// The greatest common divisor of two numbers, and 0 of two zeros: by Euclid's algorithm, at half the width as soon as both
+/// numbers fit it.
 pub fn common_divisor(a: u128, b: u128) -> u128
     ensures { IsGcd a b result }
 {

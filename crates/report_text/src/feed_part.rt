@@ -2,39 +2,8 @@ ghost use Rattle.std.specs.Prelude.{◌≡◌, IsTrue};
 ghost use Rattle.report_text.specs.Stops.{is_reported};
 
 use board_definitions::FeedStop;
-use feed_text::{Header, Refusal};
+use feed_text::{Header, Refusals};
 use std::marker::Model;
-
-/// The refused lines of a feed, in the order of the feed.
-#[derive(Debug, Drop)]
-pub struct Refusals {
-    items: Vec<Refusal>,
-}
-
-impl Model for Refusals {
-    ghost use Rattle.std.specs.Prelude.{List};
-    ghost use Rattle.feed_text.specs.declared.cause.Refusal.{Refusal};
-
-    ghost Value = { List Refusal };
-
-    ghost view = { λ r. r.items.items };
-}
-
-impl Refusals {
-    /// These refused lines. Takes no memory.
-    pub fn of(items: Vec<Refusal>) -> Refusals
-        ensures { result ≡ items.items }
-    {
-        Refusals { items }
-    }
-
-    /// The refused lines in their order.
-    pub fn items(&self) -> &[Refusal]
-        ensures { result.now ≡ self.now }
-    {
-        self.items.as_slice()
-    }
-}
 
 /// What a report says of a feed.
 #[derive(Debug, Drop)]

@@ -9,6 +9,9 @@ mod lines;
 mod words;
 mod writing;
 
-pub use report_text::{FeedPart, FeedParts, MatchPart, MatchParts, Refusals, Report};
+pub use feed_text::Refusals;
+pub use report_text::{FeedPart, FeedParts, MatchPart, MatchParts, Report};
 pub use writing::write_report;
 
+#[cfg(test)]
+mod tests;

@@ -6,7 +6,7 @@ ghost use Rattle.desk_io.specs.Faults.{Rose};
 ghost use Rattle.desk_io.specs.Sink.{AppendsPrefix};
 ghost use Rattle.certificates.specs.Written.{Wrote};
 ghost use Rattle.finding_definitions.specs.Text.{finding_text};
-ghost use Rattle.report_text.specs.Report.{report_text, feed_lines, refusal_line, offer_line, match_lines, finding_line};
+ghost use Rattle.report_text.specs.Report.{report_text, pivots_line, feed_line, feed_lines, match_line, refusal_line, offer_line, match_lines, finding_line};
 
 use crate::lines::{feed_line, match_line, offer_line, pivots_line, refusal_line};
 use certificates::put_finding;
@@ -24,6 +24,7 @@ pub fn write_report<K: Sink>(report: &Report, sink: &mut K) -> Result<(), WriteF
     ensures written { OnOk result (Appends (K.written sink.old) (K.written sink.new) (report_text report.now.pivots report.now.feeds report.now.matches)) }
     ensures cut_short { OnErr result (AppendsPrefix (K.written sink.old) (K.written sink.new) (report_text report.now.pivots report.now.feeds report.now.matches)) }
     ensures failed { OnErr result (Rose (K.faults sink.old) (K.faults sink.new)) }
+    ensures no_fault { OnOk result (K.faults sink.new ≡ K.faults sink.old) }
     ensures faults_kept { K.faults sink.old ≤ K.faults sink.new }
 {
     put_report(report, sink)
@@ -41,10 +42,17 @@ fn put_report<K: Sink>(report: &Report, sink: &mut K) -> Result<(), WriteFailed>
     ensures { Wrote (K.written sink.old) (K.written sink.new) (K.faults sink.old) (K.faults sink.new) (report_text report.now.pivots report.now.feeds report.now.matches) result }
 {
     put(sink, b"arbscan report 1\n")?;
-    put(sink, pivots_line(report.pivots).bytes())?;
+    put_pivots(report.pivots, sink)?;
     put_feeds(report.feeds.items(), sink)?;
     put_matches(report.matches.items(), sink)?;
     put(sink, b"end\n")
+}
+
+// The line of the pivots.
+fn put_pivots<K: Sink>(pivots: u32, sink: &mut K) -> Result<(), WriteFailed>
+    ensures { Wrote (K.written sink.old) (K.written sink.new) (K.faults sink.old) (K.faults sink.new) (pivots_line pivots) result }
+{
+    put(sink, pivots_line(pivots).bytes())
 }
 
 // Each feed with its refused lines.
@@ -61,22 +69,32 @@ fn put_feeds<K: Sink>(feeds: &[FeedPart], sink: &mut K) -> Result<(), WriteFaile
 fn put_feed<K: Sink>(number: u64, feed: &FeedPart, sink: &mut K) -> Result<(), WriteFailed>
     ensures { Wrote (K.written sink.old) (K.written sink.new) (K.faults sink.old) (K.faults sink.new) (feed_lines (number, feed.now)) result }
 {
-    put(sink, feed_line(number, feed).bytes())?;
+    put_feed_line(number, feed, sink)?;
     put_refusals(number, feed.refusals.items(), sink)
 }
 
+// The line of a feed.
+fn put_feed_line<K: Sink>(number: u64, feed: &FeedPart, sink: &mut K) -> Result<(), WriteFailed>
+    ensures { Wrote (K.written sink.old) (K.written sink.new) (K.faults sink.old) (K.faults sink.new) (feed_line number feed.now) result }
+{
+    put(sink, feed_line(number, feed).bytes())
+}
+
 // Each refused line of a feed.
-fn put_refusals<K: Sink>(
-    number: u64,
-    refusals: &[Refusal],
-    sink: &mut K,
-) -> Result<(), WriteFailed>
+fn put_refusals<K: Sink>(number: u64, refusals: &[Refusal], sink: &mut K) -> Result<(), WriteFailed>
     ensures { Wrote (K.written sink.old) (K.written sink.new) (K.faults sink.old) (K.faults sink.new) (flat_map (refusal_line number) refusals.now) result }
 {
     for refusal in refusals {
-        put(sink, refusal_line(number, refusal).bytes())?;
+        put_refusal(number, refusal, sink)?;
     }
     Ok(())
+}
+
+// The line of a refused line of a feed.
+fn put_refusal<K: Sink>(number: u64, refusal: &Refusal, sink: &mut K) -> Result<(), WriteFailed>
+    ensures { Wrote (K.written sink.old) (K.written sink.new) (K.faults sink.old) (K.faults sink.new) (refusal_line number refusal.now) result }
+{
+    put(sink, refusal_line(number, refusal).bytes())
 }
 
 // Each match with its offers and its finding.
@@ -93,9 +111,16 @@ fn put_matches<K: Sink>(matches: &[MatchPart], sink: &mut K) -> Result<(), Write
 fn put_match<K: Sink>(part: &MatchPart, sink: &mut K) -> Result<(), WriteFailed>
     ensures { Wrote (K.written sink.old) (K.written sink.new) (K.faults sink.old) (K.faults sink.new) (match_lines part.now) result }
 {
-    put(sink, match_line(part).bytes())?;
+    put_match_line(part, sink)?;
     put_offers(part.sheet.offers(), sink)?;
     put_found(&part.finding, sink)
+}
+
+// The line of a match.
+fn put_match_line<K: Sink>(part: &MatchPart, sink: &mut K) -> Result<(), WriteFailed>
+    ensures { Wrote (K.written sink.old) (K.written sink.new) (K.faults sink.old) (K.faults sink.new) (match_line part.now) result }
+{
+    put(sink, match_line(part).bytes())
 }
 
 // Each offer of a sheet.
@@ -103,9 +128,16 @@ fn put_offers<K: Sink>(offers: &[Offer], sink: &mut K) -> Result<(), WriteFailed
     ensures { Wrote (K.written sink.old) (K.written sink.new) (K.faults sink.old) (K.faults sink.new) (flat_map offer_line offers.now) result }
 {
     for offer in offers {
-        put(sink, offer_line(offer).bytes())?;
+        put_offer(offer, sink)?;
     }
     Ok(())
+}
+
+// The line of an offer.
+fn put_offer<K: Sink>(offer: &Offer, sink: &mut K) -> Result<(), WriteFailed>
+    ensures { Wrote (K.written sink.old) (K.written sink.new) (K.faults sink.old) (K.faults sink.new) (offer_line offer.now) result }
+{
+    put(sink, offer_line(offer).bytes())
 }
 
 // The line of a finding.

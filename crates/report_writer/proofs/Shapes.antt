@@ -1,0 +1,49 @@
+-- The parts of a line, one after another, are the line.
+use Rattle.std.proofs.Common.{ℕ, ◌≡◌, ◌<◌, ◌+◌, length, get_or, take, drop, List, [], ◌∷◌, ◌++◌, sym, ap, ◌∙◌, append_assoc, lit<}
+use Rattle.std.specs.Prelude.{codes, decimal}
+use Rattle.std.specs.List.{flat_map}
+use Rattle.std.proofs.lemmas.List.{append-nil}
+use Rattle.std.proofs.lemmas.Fmt.{decimal_digit}
+use Rattle.number_definitions.specs.Spellings.{odds_text}
+use Rattle.scan_types.specs.declared.offer.Offer.{Offer}
+use Rattle.certificates.specs.Written.{spaced}
+use Rattle.certificates.proofs.Writes.{join_spaced, spaced-append, flat_map_take, flat_map_rest}
+use Rattle.report_text.specs.Words.{line_of, selection_fields}
+use Rattle.report_text.specs.Report.{offer_line, title_line}
+
+-- fields appended one after another, each after a space
+abbrev pub appended : List ℕ → List (List ℕ) → List ℕ
+appended text [] = text
+appended text (field ∷ fields) = appended (text ++ 32 ∷ field) fields
+
+pub appended-spaced : (text : List ℕ) (fields : List (List ℕ)) → appended text fields ≡ text ++ spaced fields
+appended-spaced text [] = sym (append-nil text)
+appended-spaced text (field ∷ fields) = appended-spaced (text ++ 32 ∷ field) fields ∙ append_assoc text (32 ∷ field) (spaced fields)
+
+-- a line whose fields were appended one after another
+pub line_shape : (word : List ℕ) (fields : List (List ℕ)) → appended word fields ++ 10 ∷ [] ≡ line_of (word ∷ fields)
+line_shape word fields = ap (λ (text : List ℕ). text ++ 10 ∷ []) (appended-spaced word fields ∙ sym (join_spaced word fields))
+
+offer_chain : (b c s x o l t : List ℕ) → (((((b ++ c) ++ s) ++ x) ++ o) ++ l) ++ t ≡ (b ++ (c ++ (s ++ ((x ++ o) ++ (l ++ []))))) ++ t
+offer_chain b c s x o l t = simp (append_assoc, append-nil)
+
+pub offer_shape : (offer : Offer)
+    → (((((codes "offer" ++ 32 ∷ decimal offer.feed) ++ spaced (selection_fields offer.selection)) ++ codes " ") ++ odds_text offer.odds.thousandths) ++ 32 ∷ decimal offer.limit) ++ codes "\n"
+    ≡ offer_line offer
+offer_shape offer =
+    let more : List (List ℕ) = odds_text offer.odds.thousandths ∷ decimal offer.limit ∷ [] in
+    let fields : List (List ℕ) = decimal offer.feed ∷ (selection_fields offer.selection ++ more) in
+    offer_chain (codes "offer") (32 ∷ decimal offer.feed) (spaced (selection_fields offer.selection)) (32 ∷ []) (odds_text offer.odds.thousandths) (32 ∷ decimal offer.limit) (10 ∷ [])
+    ∙ ap (λ (r : List ℕ). (codes "offer" ++ ((32 ∷ decimal offer.feed) ++ r)) ++ 10 ∷ []) (sym (spaced-append (selection_fields offer.selection) more))
+    ∙ ap (λ (r : List ℕ). r ++ 10 ∷ []) (sym (join_spaced (codes "offer") fields))
+
+-- one more element, known to be the one of this number
+pub one_more : {X : Type 0} (f : X → List ℕ) (xs : List X) (i : ℕ) (x : X) → i < length xs → x ≡ get_or xs i x → flat_map f (take i xs) ++ f x ≡ flat_map f (take (i + 1) xs)
+one_more {X} f xs i x within is = ap (λ (y : X). flat_map f (take i xs) ++ f y) is ∙ flat_map_take f xs i x within
+
+-- the elements so far, that one, and the rest
+pub all_three : {X : Type 0} (f : X → List ℕ) (xs : List X) (i : ℕ) (x : X) → i < length xs → x ≡ get_or xs i x → (flat_map f (take i xs) ++ f x) ++ flat_map f (drop (i + 1) xs) ≡ flat_map f xs
+all_three {X} f xs i x within is = ap (λ (y : X). (flat_map f (take i xs) ++ f y) ++ flat_map f (drop (i + 1) xs)) is ∙ flat_map_rest f xs i x within
+
+pub title_is : codes "arbscan report 1\n" ≡ title_line
+title_is = ap (λ (d : List ℕ). line_of (codes "arbscan" ∷ codes "report" ∷ d ∷ [])) (sym (decimal_digit 1 (lit< tt)))
