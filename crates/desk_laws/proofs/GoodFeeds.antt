@@ -1,15 +1,12 @@
 -- A run over good feeds.
-use Rattle.std.proofs.Common.{◌≡◌, ◌≢◌, ℕ, zero, suc, ◌+◌, ◌<◌, ◌≤◌, ◌⊎◌, Bool, true, false, List, [], ◌∷◌, ◌++◌, length, get_or, slice_get, take, Option, Some, None, All, option_and_then, refl, sym, ap, ◌∙◌, subst, arith, inl, inr, length-append}
+use Rattle.std.proofs.Common.{◌≡◌, ℕ, zero, suc, ◌+◌, ◌<◌, ◌⊎◌, List, [], ◌∷◌, ◌++◌, length, get_or, slice_get, take, Option, Some, All, refl, sym, ap, ◌∙◌, subst, arith, inl, inr}
 use Rattle.std.specs.Prelude.{option_map}
-use Rattle.std.proofs.lemmas.Option.{option_and_then_some, slice_get_within, slice_get-get_or}
-use Rattle.std.specs.Io.KnownBytes.{Consumes, IsAtEnd}
+use Rattle.std.proofs.lemmas.Option.{option_and_then_some, slice_get_within}
 use Rattle.outside_definitions.specs.Opener.{Told, times}
 use Rattle.board_definitions.specs.declared.event.FeedStop.{FeedStop}
 use Rattle.board_definitions.specs.declared.event.FeedStop.TheVariants as stops
 use Rattle.feed_text.specs.declared.header.Header.{Header}
 use Rattle.feed_text.specs.declared.step.Step.{Step}
-use Rattle.feed_text.specs.declared.step.Step.TheVariants as step
-use Rattle.feed_text.specs.Feed.{steps}
 use Rattle.desk_definitions.specs.declared.feed_end.FeedEnd.{FeedEnd}
 use Rattle.desk_definitions.specs.declared.status.TheConstants.{DONE, WANT_OF_MEMORY}
 use Rattle.desk_definitions.specs.Seen.{OpenerSeen, SinkSeen, Due}
@@ -18,7 +15,7 @@ use Rattle.desk_definitions.specs.Ends.{header_in, IsStopOf, IsReadSo}
 use Rattle.desk_definitions.specs.Reads.{FeedRead, AreReadSo, IsBegun, AreBegun, book_of}
 use Rattle.desk_definitions.specs.Course.{Outcome, IsDueForHeader, IsCourse, HasNoHeader, HaveOneBook}
 use Rattle.desk_definitions.specs.Causes.{HasNoFault, HasFailedRead, SomeStop, IsGoodText, HaveTexts, AreGoodFeeds}
-use Rattle.desk_laws.proofs.Ends.{StatusSays, Fault, Limit, Whole, status_says, counted_fault, last_fault, last_at}
+use Rattle.desk_laws.proofs.Ends.{StatusSays, Fault, Limit, Whole, status_says, counted_fault, last_fault}
 use Rattle.desk_laws.proofs.Texts.{not_cut, not_malformed, own_header, IsFront, front_of, clear_of}
 
 -- the text that is told of a feed
@@ -34,8 +31,8 @@ told_of told texts k lt h = ap told {x = k} {y = 0 + k} (omega arith) ∙ told_a
 has_source : (told : Told) (names : List (List ℕ)) (k : ℕ) (text : List ℕ) → told_bytes told names k ≡ Some text → LacksSource told names k → ⊥
 has_source told names k text e lacks =
     option_and_then_some (λ sources. slice_get sources (times (get_or names k []) (take k names))) (told (get_or names k [])) text e (λ sources is found.
-      let same : sources ≡ lacks.sources = some_same sources lacks.sources (sym is ∙ lacks.are_told) in
-      omega (arith, slice_get_within sources (times (get_or names k []) (take k names)) text found, lacks.too_few, ap (λ (l : List (List ℕ)). length l) same))
+    let same : sources ≡ lacks.sources = some_same sources lacks.sources (sym is ∙ lacks.are_told) in
+    omega (arith, slice_get_within sources (times (get_or names k []) (take k names)) text found, lacks.too_few, ap (λ (l : List (List ℕ)). length l) same))
   where
     some_same : (a b : List (List ℕ)) → Some a ≡ Some b → a ≡ b
     some_same a b h = cc
@@ -73,6 +70,7 @@ module _ {S : Type 0} (left : S → Option (List ℕ)) (faults : S → ℕ) wher
     where
       front : IsFront full read.text (left end.source)
       front = front_of told full read.text (left end.source) e b.so_far.given
+
       own : good.header ≡ b.header
       own =
           let stop = b.so_far.is_end.stop in
@@ -113,11 +111,13 @@ module _ {S : Type 0} (left : S → Option (List ℕ)) (faults : S → ℕ) wher
       where
         some_same : (a b : List ℕ) → Some a ≡ Some b → a ≡ b
         some_same a b e = cc
+
         book_at : (k : ℕ) (x : FeedEnd S) → slice_get out.ends k ≡ Some x → book_of x ≡ Some h.twins.book → (lt : k < names) → (good_at k lt).header.book ≡ h.twins.book
         book_at k x is_x book_x lt =
             let b = begun_at told 0 out.ends h.reads h.begun k x is_x in
             let e : told (0 + k) ≡ Some (get_or good.texts k []) = ap told {x = 0 + k} {y = k} (omega arith) ∙ text_of k lt in
             some_same (good_at k lt).header.book h.twins.book (sym (ap (λ (o : Option Header). option_map (λ header. header.book) o) (begun_header (told (0 + k)) (0 + k) x b.0 (get_or good.texts k []) e b.1 (good_at k lt))) ∙ book_x)
+
         one_book : (x : FeedEnd S) → slice_get out.ends h.earlier ≡ Some x → book_of x ≡ Some h.twins.book → (y : FeedEnd S) → slice_get out.ends h.later ≡ Some y → book_of y ≡ Some h.twins.book → ⊥
         one_book x is_x book_x y is_y book_y =
             let low : h.earlier < names = omega (arith, slice_get_within out.ends h.earlier x is_x, h.all_named) in

@@ -1,9 +1,7 @@
 -- The history of a run whose report is due.
-use Rattle.std.proofs.Common.{◌≡◌, ◌≢◌, ℕ, zero, suc, ◌+◌, ◌-◌, ◌<◌, ◌≤◌, ◌⊎◌, Bool, true, false, cond, eqb, List, [], ◌∷◌, ◌++◌, length, get_or, slice_get, take, drop, map, filter, Option, Some, None, IsSomeAnd, IsTrue, refl, sym, ap, ◌∙◌, subst, arith, inl, inr, ⊎_elim, append-nil, append_assoc, length-append, length-drop}
+use Rattle.std.proofs.Common.{◌≡◌, ◌≢◌, ℕ, zero, suc, ◌+◌, ◌<◌, ◌≤◌, ◌⊎◌, Bool, true, false, cond, eqb, List, [], ◌∷◌, ◌++◌, length, get_or, slice_get, drop, filter, Option, Some, IsSomeAnd, IsTrue, refl, sym, ap, ◌∙◌, subst, arith, inl, inr, ⊎_elim, append-nil}
 use Rattle.std.specs.List.{list_any}
-use Rattle.std.specs.Str.{bytes_eq}
 use Rattle.std.proofs.lemmas.Bool.{false≢true, eq-eqb, eqb-true}
-use Rattle.std.proofs.lemmas.Bool.Decides.{nat_tests}
 use Rattle.std.proofs.lemmas.List.{take-append-le}
 use Rattle.std.proofs.lemmas.List.Elements.{filter-append}
 use Rattle.std.proofs.lemmas.List.Folds.{Any-from_list_any}
@@ -30,8 +28,12 @@ use Rattle.desk_definitions.specs.Lines.{event_of, key_of, entry_of, entries_of,
 use Rattle.desk_definitions.specs.Reads.{FeedRead}
 use Rattle.desk_definitions.specs.History.{bodies_of, findings_with}
 use Rattle.desk_definitions.specs.Judged.{pinned_entry, filed_entry, JudgesLongestDue, JudgesSoMany}
-use Rattle.desk_definitions.specs.Course.{Outcome, HasReport}
-use Rattle.desk_definitions.specs.Seen.{Due}
+use Rattle.desk_definitions.specs.Course.{Outcome, HasReport, IsCourse}
+use Rattle.desk_definitions.specs.declared.status.TheConstants.{WANT_OF_MEMORY}
+use Rattle.desk_definitions.specs.Opening.{told_bytes}
+use Rattle.desk_definitions.specs.Causes.{HaveRun}
+use Rattle.desk_definitions.specs.Seen.{OpenerSeen, SinkSeen, Due}
+use Rattle.desk_laws.proofs.Ends.{has_header, no_twins}
 use Rattle.desk_laws.specs.Histories.{is_by, IsFiledRight, IsFiledAfter, HasWholeHistory}
 
 -- a match with what was found of its sheet, and the entries of that
@@ -146,6 +148,7 @@ module _ {S : Type 0} where
     where
       end_same : (a b : FeedEnd S) → Some a ≡ Some b → a ≡ b
       end_same a b h = cc
+
       read_same : (a b : FeedRead) → Some a ≡ Some b → a ≡ b
       read_same a b h = cc
   bodies_by number (suc k) (first ∷ ends) (one ∷ reads) end read e f =
@@ -194,8 +197,10 @@ module _ (right : FindingIsRight) (budget : ℕ) (rules : List (Option VoidRule)
     where
       first : slice_get (history ++ judged_entries caller (length history) judged) (length history) ≡ Some (record { caller = caller; event = Pinned judged.match_name })
       first = ap (slice_get (history ++ judged_entries caller (length history) judged)) {x = length history} {y = length history + 0} (omega arith) ∙ get_back history (judged_entries caller (length history) judged) 0
+
       second : slice_get (history ++ judged_entries caller (length history) judged) (length history + 1) ≡ Some (record { caller = caller; event = Filed (length history) judged.finding })
       second = get_back history (judged_entries caller (length history) judged) 1
+
       here : IsFiledRight budget rules (history ++ judged_entries caller (length history) judged) caller (length history) judged.finding
       here =
           let same = same_sheet history (judged_entries caller (length history) judged) (length history) judged.match_name (omega arith) in
@@ -205,6 +210,7 @@ module _ (right : FindingIsRight) (budget : ℕ) (rules : List (Option VoidRule)
             exact = subst (λ s. IsFindingOf s budget judged.finding) same exact;
             right = right (sheet rules (history ++ judged_entries caller (length history) judged) (length history) judged.match_name) budget judged.finding (subst (λ s. IsFindingOf s budget judged.finding) same exact);
           }
+
       filed_at : (q by version : ℕ) (finding : Finding) → slice_get (judged_entries caller (length history) judged) q ≡ Some (record { caller = by; event = Filed version finding }) →
           IsFiledRight budget rules (history ++ judged_entries caller (length history) judged) by version finding
       filed_at zero by version finding e = absurd (not_pinned judged.match_name version finding (event_same (record { caller = caller; event = Pinned judged.match_name }) (record { caller = by; event = Filed version finding }) (some_same (record { caller = caller; event = Pinned judged.match_name }) (record { caller = by; event = Filed version finding }) e)))
@@ -215,22 +221,26 @@ module _ (right : FindingIsRight) (budget : ℕ) (rules : List (Option VoidRule)
           (subst (λ (v : ℕ). IsFiledRight budget rules (history ++ judged_entries caller (length history) judged) caller v finding) parts.0
           (subst (λ (f : Finding). IsFiledRight budget rules (history ++ judged_entries caller (length history) judged) caller (length history) f) parts.1 here))
       filed_at (suc (suc q)) by version finding e = absurd (cc)
+
       filed : (place by version : ℕ) (finding : Finding) → slice_get (history ++ judged_entries caller (length history) judged) place ≡ Some (record { caller = by; event = Filed version finding }) →
           IsFiledRight budget rules (history ++ judged_entries caller (length history) judged) by version finding
       filed place by version finding e =
           ⊎_elim (λ (f : slice_get history place ≡ Some (record { caller = by; event = Filed version finding })). filed_more history (judged_entries caller (length history) judged) by version finding (sound.filed place by version finding f))
           (λ (g : (q : ℕ) × (place ≡ length history + q) × (slice_get (judged_entries caller (length history) judged) q ≡ Some (record { caller = by; event = Filed version finding }))). filed_at g.0 by version finding g.2)
           (where_is history (judged_entries caller (length history) judged) place (record { caller = by; event = Filed version finding }) e)
+
       pinned_at : (q version by : ℕ) (match_name : List ℕ) → version ≡ length history + q → slice_get (judged_entries caller (length history) judged) q ≡ Some (record { caller = by; event = Pinned match_name }) →
           (finding : Finding) × (slice_get (history ++ judged_entries caller (length history) judged) (version + 1) ≡ Some (record { caller = by; event = Filed version finding }))
       pinned_at zero version by match_name at e =
-          let v : length history ≡ version = omega (arith, at) in
-          (judged.finding,
+          let v : length history ≡ version = omega (arith, at) in (
+            judged.finding,
             subst (λ (n : ℕ). slice_get (history ++ judged_entries caller (length history) judged) (n + 1) ≡ Some (record { caller = by; event = Filed n judged.finding })) v
-            (subst (λ (c : ℕ). slice_get (history ++ judged_entries caller (length history) judged) (length history + 1) ≡ Some (record { caller = c; event = Filed (length history) judged.finding }))
-            (ap (λ (x : Entry). x.caller) (some_same (record { caller = caller; event = Pinned judged.match_name }) (record { caller = by; event = Pinned match_name }) e)) second))
+                (subst (λ (c : ℕ). slice_get (history ++ judged_entries caller (length history) judged) (length history + 1) ≡ Some (record { caller = c; event = Filed (length history) judged.finding }))
+                (ap (λ (x : Entry). x.caller) (some_same (record { caller = caller; event = Pinned judged.match_name }) (record { caller = by; event = Pinned match_name }) e)) second),
+          )
       pinned_at (suc zero) version by match_name at e = absurd (not_pinned match_name (length history) judged.finding (sym (event_same (record { caller = caller; event = Filed (length history) judged.finding }) (record { caller = by; event = Pinned match_name }) (some_same (record { caller = caller; event = Filed (length history) judged.finding }) (record { caller = by; event = Pinned match_name }) e))))
       pinned_at (suc (suc q)) version by match_name at e = absurd (cc)
+
       pinned : (version by : ℕ) (match_name : List ℕ) → slice_get (history ++ judged_entries caller (length history) judged) version ≡ Some (record { caller = by; event = Pinned match_name }) →
           (finding : Finding) × (slice_get (history ++ judged_entries caller (length history) judged) (version + 1) ≡ Some (record { caller = by; event = Filed version finding }))
       pinned version by match_name e =
@@ -265,8 +275,8 @@ module _ (right : FindingIsRight) (budget : ℕ) (rules : List (Option VoidRule)
       ap (filter (is_by feed)) step.entries
       ∙ filter-append (is_by feed) before (pinned_entry caller step.match_name ∷ filed_entry caller (length before) step.finding ∷ [])
       ∙ ap (λ l. filter (is_by feed) before ++ l) (none_by feed (pinned_entry caller step.match_name ∷ filed_entry caller (length before) step.finding ∷ [])
-        (each_cons (λ e. e.caller ≢ feed) (pinned_entry caller step.match_name) (filed_entry caller (length before) step.finding ∷ []) other
-        (each_cons (λ e. e.caller ≢ feed) (filed_entry caller (length before) step.finding) [] other (none_each (λ e. e.caller ≢ feed)))))
+      (each_cons (λ e. e.caller ≢ feed) (pinned_entry caller step.match_name) (filed_entry caller (length before) step.finding ∷ []) other
+      (each_cons (λ e. e.caller ≢ feed) (filed_entry caller (length before) step.finding) [] other (none_each (λ e. e.caller ≢ feed)))))
       ∙ append-nil (filter (is_by feed) before)
 
   judged_by : (feed n : ℕ) (before after : List Entry) → caller ≢ feed → JudgesSoMany rules (findings_with budget) caller n before after → filter (is_by feed) after ≡ filter (is_by feed) before
@@ -336,3 +346,16 @@ module _ {S : Type 0} (left : S → Option (List ℕ)) (faults : S → ℕ) (tol
     filed_right = λ place caller version finding e. sound.filed place caller version finding e;
     all_filed = filed_after;
   }
+
+-- a run whose bodies were read, and that had memory
+pub history_of : {S : Type 0} (left : S → Option (List ℕ)) (faults : S → ℕ) (names : List (List ℕ)) (budget : ℕ) (opener : OpenerSeen) (out : Outcome S) (status : ℕ) (sink : SinkSeen) → FindingIsRight →
+    IsCourse left faults names budget opener out status sink → HaveRun (length names) out.ends → status ≢ WANT_OF_MEMORY → HasWholeHistory left faults (told_bytes opener.told names) (length names) budget out
+history_of left faults names budget opener out status sink right (inr (seven, nothing, off)) run memory = absurd (memory seven)
+history_of {S} left faults names budget opener out status sink right (inl (due, inl unopened, written)) run memory =
+    absurd (omega (arith, unopened.fails.is_named, run.all_named, ap (λ (l : List (FeedEnd S)). length l) unopened.unbegun.no_feed))
+history_of left faults names budget opener out status sink right (inl (due, inr (opens, inl h), written)) run memory =
+    absurd (has_header h.last.stop out.ends (record { front = h.front; last = h.last; are = h.begun_are; no_header = h.last_read.is_end.header ∙ h.no_header; stop_is = refl }) run.headers)
+history_of left faults names budget opener out status sink right (inl (due, inr (opens, inr (inl h)), written)) run memory =
+    absurd (no_twins out.ends h.earlier h.later h.twins run.different)
+history_of left faults names budget opener out status sink right (inl (due, inr (opens, inr (inr h)), written)) run memory =
+    whole_history left faults (told_bytes opener.told names) (length names) budget right out due h

@@ -1,6 +1,6 @@
 -- A good feed text, of which a front was read.
-use Rattle.std.proofs.Common.{◌≡◌, ℕ, zero, suc, ◌+◌, ◌<◌, ◌≤◌, ◌⊎◌, Bool, true, false, cond, eqb, List, [], ◌∷◌, ◌++◌, length, take, Option, Some, None, refl, sym, ap, ◌∙◌, subst, arith, inl, inr, ⊎_elim, append-nil, length-take}
-use Rattle.std.specs.Prelude.{Result, Ok, Err}
+use Rattle.std.proofs.Common.{◌≡◌, ℕ, zero, suc, ◌<◌, ◌⊎◌, Bool, true, false, cond, eqb, List, [], ◌∷◌, ◌++◌, length, take, Option, Some, None, refl, sym, ap, ◌∙◌, subst, arith, inl, inr, ⊎_elim, append-nil, length-take}
+use Rattle.std.specs.Prelude.{Ok, Err}
 use Rattle.std.specs.Io.KnownBytes.{Consumes, IsAtEnd}
 use Rattle.std.proofs.lemmas.Bool.{false≢true}
 use Rattle.std.proofs.lemmas.Bool.Decides.{nat_tests}
@@ -10,7 +10,7 @@ use Rattle.feed_text.specs.declared.cause.Refusal.{Refusal}
 use Rattle.feed_text.specs.declared.header.Header.{Header}
 use Rattle.feed_text.specs.declared.step.Step.{Step}
 use Rattle.feed_text.specs.declared.step.Step.TheVariants as step
-use Rattle.feed_text.specs.Lines.{ended_lines, all_lines, is_too_large, is_cut, lines_within, counted_lines, answered_lines}
+use Rattle.feed_text.specs.Lines.{ended_lines, is_too_large, is_cut, lines_within, counted_lines, answered_lines}
 use Rattle.feed_text.specs.Forms.{header_of}
 use Rattle.feed_text.specs.Feed.{refusal, line_answer, accepted_in, line_steps, feed_steps, ending, steps}
 use Rattle.feed_text.specs.Answers.{is_open}
@@ -56,9 +56,11 @@ is_cut_by text lines h =
   where
     last : last_step (steps false text) step.End ≡ step.Cut
     last = ap (λ l. last_step l step.End) h ∙ last_step_is lines step.Cut step.End
+
     by_cut : (b : Bool) → cond b step.Cut step.End ≡ step.Cut → b ≡ true
     by_cut true e = refl
     by_cut false e = absurd (cc)
+
     not_bad : (r : Refusal) → step.BadHeader r ≡ step.Cut → ⊥
     not_bad r e = absurd (cc)
 
@@ -102,8 +104,10 @@ not_malformed full text more r is bad clear good =
   where
     no_header : step.Header good.header ∷ (good.lines ++ step.End ∷ []) ≡ step.BadHeader r ∷ [] → ⊥
     no_header e = absurd (let h = ap (λ l. last_step (take 1 l) step.End) e in cc)
+
     shut : is_open (take 1 (steps false text)) ≡ false
     shut = ap (λ l. is_open (take 1 l)) bad
+
     stays : (0 < length (ended_lines text)) ⊎ ((is_too_large text ≡ true) ⊎ (more ≡ [])) → steps false (text ++ more) ≡ steps false text
     stays (inl some) = bad_header_stays text more false false (first_answered text (inl some)) shut
     stays (inr (inl large)) = bad_header_stays text more false false (first_answered text (inr large)) shut
@@ -117,6 +121,7 @@ no_line text h rest none is = by_lines (answered_lines true text) refl
     by_cut : (b : Bool) → cond b step.Cut step.ReadFault ≡ step.Header h → ⊥
     by_cut true e = absurd (cc)
     by_cut false e = absurd (cc)
+
     by_lines : (lines : List (List ℕ)) → answered_lines true text ≡ lines → ⊥
     by_lines [] e = by_cut (is_cut text) (ap (λ l. last_step (take 1 l) step.End) (sym (ap (feed_steps (ending true text)) e) ∙ is))
     by_lines (line ∷ lines) e = omega (arith, none, ap (λ (l : List (List ℕ)). length l) e)
@@ -127,6 +132,7 @@ same_header xs ys a b e = of_step (step.Header a) (step.Header b) (ap (λ l. las
     header_or : Step → Header
     header_or (step.Header h) = h
     header_or _ = a
+
     of_step : (s t : Step) → s ≡ t → header_or s ≡ header_or t
     of_step s t e = ap header_or e
 
@@ -142,6 +148,7 @@ own_header full text more failed h rest is read clear good =
         by_count : (n : ℕ) → length (answered_lines true text) ≡ n → take 1 (steps false (text ++ more)) ≡ take 1 (steps true text)
         by_count zero e = absurd (no_line text h rest e read)
         by_count (suc n) e = steps_stay text more true false 1 (omega (arith, e))
+
     stays : (0 < length (ended_lines text)) ⊎ ((is_too_large text ≡ true) ⊎ (more ≡ [])) → (failed : Bool) → steps failed text ≡ step.Header h ∷ rest → take 1 (steps false (text ++ more)) ≡ take 1 (steps failed text)
     stays (inl some) failed read = steps_stay text more failed false 1 (omega (arith, first_answered text (inl some)))
     stays (inr (inl large)) failed read = steps_stay text more failed false 1 (omega (arith, first_answered text (inr large)))
