@@ -1,3 +1,4 @@
 pub mod Waiting
 pub mod Steps
 pub mod Prefixes
+pub mod FirstQuote

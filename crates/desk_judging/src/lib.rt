@@ -9,3 +9,6 @@ mod due;
 mod sheets;
 
 pub use due::judge_due;
+
+#[cfg(test)]
+mod tests;
