@@ -1,0 +1,5 @@
+pub mod Splits
+pub mod Takings
+pub mod Rows
+pub mod Lines
+pub mod Answering
