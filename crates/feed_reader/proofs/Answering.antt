@@ -1,11 +1,11 @@
 -- The answer to the next line, and what is left after it.
-use Rattle.std.proofs.Common.{◌≡◌, ℕ, zero, suc, ◌+◌, ◌<◌, ◌≤◌, Bool, true, false, not, cond, ltb, List, [], ◌∷◌, ◌++◌, length, take, slice_get, Some, refl, sym, ap, ◌∙◌, subst, arith, append-nil, length-take, length-append}
+use Rattle.std.proofs.Common.{◌≡◌, ℕ, zero, suc, ◌+◌, ◌<◌, Bool, true, false, not, cond, ltb, List, [], ◌∷◌, ◌++◌, length, take, slice_get, Some, refl, sym, ap, ◌∙◌, subst, arith, length-take, length-append}
 use Rattle.std.specs.Prelude.{Option, None, Result, Ok, Err}
 use Rattle.scan_types.specs.Selections.{selection_number}
 use Rattle.feed_text.specs.declared.cause.Cause.{Cause}
 use Rattle.std.proofs.lemmas.Bool.{false≢true}
 use Rattle.std.proofs.lemmas.Bool.Decides.{nat_tests}
-use Rattle.std.proofs.lemmas.List.{length-take-le, take_all}
+use Rattle.std.proofs.lemmas.List.{length-take-le}
 use Rattle.std.proofs.lemmas.Option.{slice_get_within}
 use Rattle.scan_types.specs.declared.limits.TheConstants.{MOST_LINES, MOST_LINE_BYTES}
 use Rattle.feed_text.specs.declared.accepted.Accepted.{Accepted}
@@ -14,13 +14,11 @@ use Rattle.feed_text.specs.declared.header.Header.{Header}
 use Rattle.feed_text.specs.declared.request.LineForm.{LineForm}
 use Rattle.feed_text.specs.declared.request.LineForm.TheVariants as form
 use Rattle.feed_text.specs.declared.step.Step.{Step}
-use Rattle.feed_text.specs.declared.step.Step.TheVariants as step
 use Rattle.feed_text.specs.Lines.{answered_lines, counted_lines}
 use Rattle.feed_text.specs.Forms.{header_of, header_form, line_form, read_ascii, too_long, without_return}
 use Rattle.feed_text.specs.Standing.{refused_for}
-use Rattle.feed_text.specs.Feed.{request_step, form_step, line_answer, accepted_in, steps, ending}
+use Rattle.feed_text.specs.Feed.{request_step, form_step, line_answer, accepted_in, ending}
 use Rattle.feed_text.specs.Answers.{header_step, next_answer, is_header, is_open, ends_feed}
-use Rattle.feed_text.proofs.Walk.{accepted_joined}
 use Rattle.feed_text.proofs.Prefixes.{step_of_line, steps_end, bad_header_ends}
 use Rattle.feed_reader.specs.Rows.{IsStanding}
 use Rattle.feed_reader.specs.Reader.{steps_so, IsAtLine, IsReadOut, IsNextLine, IsAfterLines, IsAnswer, IsReading, is_read_fault, is_of_line}
@@ -88,6 +86,7 @@ take_more xs k s h = ap (λ n. take n xs) {x = k + 1} {y = suc k} (omega arith) 
   where
     some_same : (a b : Step) → Some a ≡ Some b → a ≡ b
     some_same a b h = cc
+
     more : (xs : List Step) (k : ℕ) → slice_get xs k ≡ Some s → take (suc k) xs ≡ take k xs ++ s ∷ []
     more [] k h = absurd (cc)
     more (x ∷ xs) zero h = ap (λ y. y ∷ []) (some_same x s h)
@@ -116,8 +115,10 @@ line_answers drained bytes lines line s next opened is = record {
   where
     item : slice_get (steps_so drained bytes) lines ≡ Some s
     item = next_item drained bytes lines line next opened ∙ ap Some (sym is)
+
     taken : take (lines + 1) (steps_so drained bytes) ≡ take lines (steps_so drained bytes) ++ s ∷ []
     taken = take_more (steps_so drained bytes) lines s item
+
     last : ends_feed s ≡ true → (length (take lines (steps_so drained bytes)) ≡ 0) × (is_open (take lines (steps_so drained bytes) ++ next_answer (take lines (steps_so drained bytes)) line ∷ []) ≡ false) →
         steps_so drained bytes ≡ take lines (steps_so drained bytes) ++ s ∷ []
     last ends shut =
@@ -145,11 +146,13 @@ ending_answers drained bytes lines s after opened ends = record {
         steps_end (not drained) bytes (ap (λ n. is_open (take n (steps_so drained bytes))) after.all ∙ opened)
         ∙ ap (λ n. take n (steps_so drained bytes) ++ ending (not drained) bytes ∷ []) after.all
         ∙ ap (λ s. take lines (steps_so drained bytes) ++ s ∷ []) after.ends
+
     long : length (take lines (steps_so drained bytes)) ≡ lines
     long = grow (length (steps_so drained bytes)) refl
       where
         grow : (n : ℕ) → n ≡ length (steps_so drained bytes) → length (take lines (steps_so drained bytes)) ≡ lines
         grow n e = omega (arith, length-take lines (steps_so drained bytes), ap length whole, length-append (take lines (steps_so drained bytes)) (s ∷ []))
+
     item : slice_get (steps_so drained bytes) lines ≡ Some s
     item = ap (λ l. slice_get l lines) whole ∙ after_get (take lines (steps_so drained bytes)) lines s long
 

@@ -3,3 +3,4 @@ pub mod Takings
 pub mod Rows
 pub mod Lines
 pub mod Answering
+pub mod Between

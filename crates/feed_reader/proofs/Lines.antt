@@ -1,5 +1,5 @@
 -- How the next line stands in the bytes taken, as lines of the text.
-use Rattle.std.proofs.Common.{◌≡◌, ℕ, zero, suc, ◌+◌, ◌-◌, ◌<◌, ◌≤◌, Bool, true, false, not, cond, eqb, ltb, ◌&&◌, ◌||◌, ◌⊎◌, List, [], ◌∷◌, ◌++◌, length, take, drop, min, slice_get, Some, refl, sym, ap, ◌∙◌, subst, arith, append-nil, append_assoc, length-append, length-take, length-drop, inl, inr, ⊎_elim}
+use Rattle.std.proofs.Common.{◌≡◌, ℕ, zero, suc, ◌+◌, ◌-◌, ◌<◌, ◌≤◌, Bool, true, false, not, cond, eqb, ltb, ◌&&◌, ◌||◌, ◌⊎◌, List, [], ◌∷◌, ◌++◌, length, take, drop, slice_get, Some, refl, sym, ap, ◌∙◌, subst, arith, append-nil, append_assoc, length-append, length-take, length-drop, inl, inr, ⊎_elim}
 use Rattle.std.proofs.lemmas.Bool.{ltb-true, ltb-false}
 use Rattle.std.proofs.Math.ListN.{drop_of_length-le}
 use Rattle.std.proofs.lemmas.Bool.Decides.{nat_tests}
@@ -7,7 +7,6 @@ use Rattle.std.proofs.lemmas.List.{take-append-drop, take-append-le, take_all, l
 use Rattle.std.specs.List.{onto_first}
 use Rattle.std.proofs.Math.Seq.{take-append_seam}
 use Rattle.scan_types.specs.declared.limits.TheConstants.{MOST_FEED_BYTES, MOST_LINES}
-use Rattle.feed_text.specs.declared.step.Step.{Step}
 use Rattle.feed_text.specs.declared.step.Step.TheVariants as step
 use Rattle.feed_text.specs.Lines.{is_line_feed, pieces, ended_lines, unended, last_line, all_lines, is_too_large, is_cut, lines_within, counted_lines, answered_lines}
 use Rattle.feed_text.specs.Feed.{ending}
@@ -75,6 +74,7 @@ cut_if_many text h = ap (λ t. is_too_large text || t) {x = ltb MOST_LINES (leng
   where
     many : (n : ℕ) → MOST_LINES < n → ltb MOST_LINES n ≡ true
     many n h = grind (arith, nat_tests)
+
     or_true : (t : Bool) → (t || true) ≡ true
     or_true true = refl
     or_true false = refl
@@ -109,6 +109,7 @@ lines_beyond first (x ∷ xs) whole some =
   where
     ended_is : ended_lines (first ++ x ∷ xs) ≡ ended_lines first ++ front (pieces (x ∷ xs))
     ended_is = ended_joined first (x ∷ xs) ∙ ap (λ u. ended_lines first ++ front (onto u (pieces (x ∷ xs)))) whole ∙ ap (λ ps. ended_lines first ++ front ps) (onto_nothing (pieces (x ∷ xs)))
+
     unended_is : unended (first ++ x ∷ xs) ≡ end_of (pieces (x ∷ xs))
     unended_is = unended_joined first (x ∷ xs) ∙ ap (λ u. end_of (onto u (pieces (x ∷ xs)))) whole ∙ ap end_of (onto_nothing (pieces (x ∷ xs)))
 
@@ -162,9 +163,9 @@ module _ (bytes : List ℕ) (start k : ℕ) (at : IsAtLine bytes start k) where
     parts =
         looked_and_others bytes
         ∙ ap (λ l. l ++ drop MOST_FEED_BYTES bytes) (
-          sym (take-append-drop start (looked_at bytes))
-          ∙ ap (λ l. l ++ drop start (looked_at bytes)) (front_of_looked bytes start at.low at.within)
-          ∙ ap (λ l. take start bytes ++ l) found.parts)
+        sym (take-append-drop start (looked_at bytes))
+        ∙ ap (λ l. l ++ drop start (looked_at bytes)) (front_of_looked bytes start at.low at.within)
+        ∙ ap (λ l. take start bytes ++ l) found.parts)
         ∙ joined (take start bytes) (take (end - start) (drop start (looked_at bytes))) (drop (end + 1) (looked_at bytes)) (drop MOST_FEED_BYTES bytes)
       where
         joined : (a b c d : List ℕ) → (a ++ (b ++ 10 ∷ c)) ++ d ≡ (a ++ (b ++ 10 ∷ [])) ++ (c ++ d)
@@ -188,6 +189,7 @@ module _ (bytes : List ℕ) (start k : ℕ) (at : IsAtLine bytes start k) where
       where
         begins : Begins (suc k) (ended_lines text) (answered_lines (not drained) (text ++ others))
         begins = answered_more (not drained) text others (suc k) (small text (omega (arith, text_long, end_low))) (omega (arith, few)) (omega (arith, count_text)) (omega (arith, count_text))
+
         here : slice_get (answered_lines (not drained) (text ++ others)) k ≡ Some (take (end - start) (drop start (looked_at bytes)))
         here =
             sym (get_taken (answered_lines (not drained) (text ++ others)) k)
@@ -322,7 +324,7 @@ module _ (bytes : List ℕ) (start k : ℕ) (at : IsAtLine bytes start k) where
   behind_after drained full more = record {
     all = omega (arith, full, enough (not drained) (omega (arith, full)), length-take MOST_LINES (counted_lines (not drained) bytes));
     ends = ending_by (not drained) bytes true (cut_if_many bytes (subst (λ b. MOST_LINES < length (all_lines b)) (take-append-drop start bytes)
-      (omega (arith, full, at.count, lines_beyond (take start bytes) (drop start bytes) at.whole (omega (arith, more, length-drop start bytes))))));
+        (omega (arith, full, at.count, lines_beyond (take start bytes) (drop start bytes) at.whole (omega (arith, more, length-drop start bytes))))));
   }
 
 pub read_out_after : (bytes : List ℕ) (k : ℕ) → IsReadOut bytes k → IsAfterLines true bytes k step.End
@@ -339,16 +341,21 @@ more_lines bytes start k at h = (within, by_size (ltb MOST_FEED_BYTES (length by
         ∙ ended_joined (take start bytes) (drop start bytes)
         ∙ ap (λ u. ended_lines (take start bytes) ++ front (onto u (pieces (drop start bytes)))) at.whole
         ∙ ap (λ ps. ended_lines (take start bytes) ++ front ps) (onto_nothing (pieces (drop start bytes)))
+
     feeds : 1 < length (pieces (drop start bytes))
     feeds = omega (arith, h, ap length ended_is, length-append (ended_lines (take start bytes)) (front (pieces (drop start bytes))), at.count, length-front (pieces (drop start bytes)))
+
     empty : (xs : List ℕ) → length xs ≡ 0 → 1 < length (pieces xs) → ⊥
     empty [] h g = omega (arith, g)
     empty (x ∷ xs) h g = omega (arith, h)
+
     positive : (n : ℕ) → length (drop start bytes) ≡ n → start < length bytes
     positive zero e = absurd (empty (drop start bytes) e feeds)
     positive (suc n) e = omega (arith, e, length-drop start bytes)
+
     within : start < length bytes
     within = positive (length (drop start bytes)) refl
+
     by_size : (b : Bool) → ltb MOST_FEED_BYTES (length bytes) ≡ b → (1 < length (pieces (drop start (looked_at bytes)))) ⊎ (MOST_FEED_BYTES < length bytes)
     by_size true e = inr (ltb-true MOST_FEED_BYTES (length bytes) e)
     by_size false e = inl (subst (λ b. 1 < length (pieces (drop start b))) (sym (all_looked_at bytes (ltb-false MOST_FEED_BYTES (length bytes) e))) feeds)

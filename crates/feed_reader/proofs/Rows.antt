@@ -13,7 +13,7 @@ use Rattle.feed_text.specs.declared.accepted.Change.{Change}
 use Rattle.feed_text.specs.declared.accepted.Change.TheVariants.{Quote, Withdraw}
 use Rattle.feed_text.specs.declared.cause.Cause.{Cause}
 use Rattle.feed_text.specs.declared.cause.Cause.TheVariants.{TooManyMatches, TooManyOffers, NotQuoted}
-use Rattle.feed_text.specs.Standing.{is_quote, each_once, matches_of, is_known, is_about, is_quoted_by, stands, standing_count, has_match_room, has_offer_room, refused_for}
+use Rattle.feed_text.specs.Standing.{is_quote, each_once, matches_of, is_known, is_about, is_quoted_by, stands, standing_count, refused_for}
 use Rattle.feed_reader.specs.Rows.{stands_in, row_or_empty, IsStanding, quote_refused_by, refused_by}
 
 -- the tests of `==` on texts
@@ -207,9 +207,9 @@ module _ (row_of : List ℕ → Option (List Bool)) (rows : ℕ) (lines : List A
       by_row : (o : Option (List Bool)) → row_of name ≡ o → quote_refused_by o rows number
           ≡ refuse (is_known lines name || ltb (length (matches_of lines)) MOST_MATCHES) (stands lines name number || ltb (standing_count lines name) MOST_STANDING)
       by_row None e = none_case (is_known lines name) (stands lines name number) rows (length (matches_of lines)) (standing_count lines name)
-        (known_is None e) (stands_is number None h e) is.count (count_in None e ∙ none_in MOST_SELECTIONS)
+          (known_is None e) (stands_is number None h e) is.count (count_in None e ∙ none_in MOST_SELECTIONS)
       by_row (Some row) e = row_case (is_known lines name) (stands lines name number) (get_or row number false) (standing_count lines name) (count_by (λ t. t) row) (length (matches_of lines))
-        (known_is (Some row) e) (stands_is number (Some row) h e) (count_in (Some row) e)
+          (known_is (Some row) e) (stands_is number (Some row) h e) (count_in (Some row) e)
 
 -- one more accepted line
 get_empty : (o : Option (List Bool)) (n : ℕ) → n < MOST_SELECTIONS → get_or (row_or_empty o) n false ≡ stands_in o n
@@ -263,12 +263,15 @@ module _ (row_of row_now : List ℕ → Option (List Bool)) (rows rows_now : ℕ
     where
       row : List Bool
       row = set (row_or_empty (row_of line.match_name)) (selection_number line.selection) (is_quote line.change)
+
       or_true : (t : Bool) → true ≡ (t || true)
       or_true true = refl
       or_true false = refl
+
       or_false : (t : Bool) → t ≡ (t || false)
       or_false true = refl
       or_false false = refl
+
       by_tests : (b : Bool) → bytes_eq line.match_name q ≡ b → (k : Bool) → is_some (row_of line.match_name) ≡ k →
           is_some (cond b (Some row) (row_of q)) ≡ among q (cond k (matches_of lines) (matches_of lines ++ line.match_name ∷ []))
       by_tests true e true known = sym (ap (is_known lines) (sym (same_text line.match_name q e)) ∙ sym (is.known line.match_name) ∙ known)
@@ -298,12 +301,16 @@ module _ (row_of row_now : List ℕ → Option (List Bool)) (rows rows_now : ℕ
     where
       row : List Bool
       row = row_or_empty (row_of line.match_name)
+
       wide : length row ≡ MOST_SELECTIONS
       wide = size_empty (row_of line.match_name) (is.sizes line.match_name)
+
       same_number : eqb (selection_number line.selection) n ≡ true → selection_number line.selection ≡ n
       same_number e = eqb-true (selection_number line.selection) n e
+
       other_number : eqb (selection_number line.selection) n ≡ false → n ≡ selection_number line.selection → ⊥
       other_number e same = false≢true (sym e ∙ ap (eqb (selection_number line.selection)) same ∙ eq-eqb (selection_number line.selection) (selection_number line.selection) refl)
+
       by_name : (b : Bool) → bytes_eq line.match_name q ≡ b → (m : Bool) → eqb (selection_number line.selection) n ≡ m →
           stands_in (cond b (Some (set row (selection_number line.selection) (is_quote line.change))) (row_of q)) n
           ≡ cond (b && m) (is_quote line.change) (stands lines q n)

@@ -3,7 +3,7 @@ use Rattle.std.specs.Prelude.{◌≡◌, ◌<◌, ◌≤◌, ◌+◌, ◌-◌, �
 use Rattle.scan_types.specs.declared.limits.TheConstants.{MOST_FEED_BYTES, MOST_LINES, MOST_LINE_BYTES}
 use Rattle.feed_text.specs.declared.step.Step.{Step}
 use Rattle.feed_text.specs.declared.step.Step.TheVariants as step
-use Rattle.feed_text.specs.Lines.{ended_lines, unended, all_lines, is_cut, answered_lines}
+use Rattle.feed_text.specs.Lines.{ended_lines, unended, is_cut, answered_lines}
 use Rattle.feed_text.specs.Feed.{steps, accepted_in, ending}
 use Rattle.feed_text.specs.Answers.{is_open, ends_feed}
 use Rattle.feed_reader.specs.declared.next_line.NextLine.{NextLine}

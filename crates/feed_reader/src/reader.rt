@@ -22,12 +22,7 @@ use std::alloc::Global;
 use std::marker::Model;
 
 /// How the next line stands. Once a read has answered that no bytes are left, none is made.
-fn found_next<S: Source>(
-    taken: &mut Taken,
-    source: &mut S,
-    lines: u32,
-    drained: bool,
-) -> NextLine
+fn found_next<S: Source>(taken: &mut Taken, source: &mut S, lines: u32, drained: bool) -> NextLine
     requires room { 4198400 ≤ vec_capacity taken.old.bytes }
     requires few_lines { lines ≤ MOST_LINES }
     requires at_line { drained ≡ false → IsAtLine taken.old.bytes.items taken.old.start lines }
@@ -51,15 +46,15 @@ fn found_next<S: Source>(
 }
 
 /// Whether a read has answered that no bytes are left.
-fn is_drained(found: NextLine) -> bool
-    ensures { result ≡ drained_by found }
+fn is_drained(found: &NextLine) -> bool
+    ensures { result ≡ drained_by found.now }
 {
     matches!(found, NextLine::Last | NextLine::End)
 }
 
 /// Whether nothing follows the step.
-fn ends_feed(step: Step) -> bool
-    ensures { result ≡ ends_feed step }
+fn ends_feed(step: &Step) -> bool
+    ensures { result ≡ ends_feed step.now }
 {
     matches!(
         step,
@@ -68,8 +63,8 @@ fn ends_feed(step: Step) -> bool
 }
 
 /// Whether the step is for a line.
-fn is_of_line(step: Step) -> bool
-    ensures { result ≡ is_of_line step }
+fn is_of_line(step: &Step) -> bool
+    ensures { result ≡ is_of_line step.now }
 {
     !matches!(step, Step::End | Step::Cut | Step::ReadFault)
 }
@@ -174,11 +169,12 @@ impl<S: Source + Drop> FeedReader<S> {
             self.answers,
             self.drained,
         );
+        let drained = is_drained(&found);
         let step = answer(found, self.answers, &mut self.taken, &mut self.standing);
         self.answers += 1;
-        self.drained = is_drained(found);
-        self.ended = !is_of_line(step);
-        self.over = ends_feed(step);
+        self.drained = drained;
+        self.ended = !is_of_line(&step);
+        self.over = ends_feed(&step);
         Ok(step)
     }
 }

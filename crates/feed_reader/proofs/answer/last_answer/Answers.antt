@@ -1,11 +1,10 @@
-use Rattle.std.proofs.Common.{◌≡◌, ℕ, List, false, true, take, drop, ◌-◌, ◌+◌, sym, ap, ◌∙◌, subst, arith}
+use Rattle.std.proofs.Common.{ℕ, List, true, take, drop, sym, ap, ◌∙◌}
 use Rattle.std.specs.Str.{bytes_eq}
 use Rattle.std.proofs.lemmas.Bool.{false≢true}
 use Rattle.indexmap.specs.IndexMap.{get as row_at, index_map_len}
 use Rattle.feed_text.specs.declared.step.Step.{Step}
 use Rattle.feed_text.specs.Answers.{next_answer}
-use Rattle.feed_reader.specs.Taking.{looked_at}
-use Rattle.feed_reader.specs.Reader.{steps_so, IsAtLine, is_read_fault}
+use Rattle.feed_reader.specs.Reader.{steps_so, is_read_fault}
 use Rattle.feed_reader.proofs.Answering.{line_answers, line_length, low_line, reading_on, answer_is_of_line}
 use Rattle.feed_reader.proofs.answer.last_answer.Goals as goal
 

@@ -2,7 +2,7 @@ use Rattle.std.proofs.Common.{ℕ, List, true, false, sym, subst, arith}
 use Rattle.feed_text.specs.declared.step.Step.TheVariants as step
 use Rattle.feed_reader.specs.Reader.{IsAfterLines}
 use Rattle.feed_reader.proofs.Takings.{nothing_more}
-use Rattle.feed_reader.proofs.Lines.{more_bytes, more_lines, behind_after, full_at_end}
+use Rattle.feed_reader.proofs.Lines.{more_bytes, behind_after, full_at_end}
 use Rattle.feed_reader.proofs.reading.behind_last.Goals as goal
 
 pub returns-then-taken-len-clause-stands : goal.returns-then-taken-len-clause-stands
@@ -28,4 +28,3 @@ pub returns-in-Err-clause-stands : goal.returns-in-Err-clause-stands
 returns-in-Err-clause-stands g c =
     subst (λ (b : List ℕ). IsAfterLines false b c.args.lines step.ReadFault) (sym c.in-Err.ensures.nothing)
     (full_at_end c.args.taken.now.bytes.items c.args.taken.now.start c.args.lines c.requires.at_line (omega arith) c.requires.full).1
-

@@ -1,4 +1,4 @@
-use Rattle.std.proofs.Common.{◌≡◌, ℕ, List, drop, subst, sym, ap, ◌∙◌, arith, false, length-drop}
+use Rattle.std.proofs.Common.{◌≡◌, ℕ, List, drop, subst, sym, arith, false}
 use Rattle.feed_reader.specs.Taking.{looked_at, IsOneLine, IsEndedAt}
 use Rattle.feed_reader.specs.Reader.{IsAtLine, StandsSo}
 use Rattle.feed_reader.proofs.Lines.{more_bytes, more_lines, ended_next, ended_at, fault_after, few_more}
