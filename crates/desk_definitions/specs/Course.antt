@@ -45,6 +45,20 @@ IsDueForHeader stops.BadHeader number read due =
     × (due ≡ record { status = BAD_HEADER; text = is_no_header number refusal.place.column refusal.cause })
 IsDueForHeader _ number read due = ⊥
 
+abbrev pub is_read_fault : FeedStop → Bool
+is_read_fault stops.ReadFault = true
+is_read_fault _ = false
+
+abbrev pub is_cut : FeedStop → Bool
+is_cut stops.Cut = true
+is_cut _ = false
+
+-- the status of feeds with these ends: a failed read counts before a limit of size
+abbrev pub status_of : {S : Type 0} → List (FeedEnd S) → ℕ
+status_of ends =
+    if list_any (λ end. is_read_fault end.stop) ends then NOT_READ
+    else (if list_any (λ end. is_cut end.stop) ends then CUT else DONE)
+
 module _ {S : Type 0} (left : S → Option (List ℕ)) (faults : S → ℕ) (told : ℕ → Option (List ℕ)) (names : ℕ) where
   -- the headers of the feeds before the last were read, and the last one has none: a read of it failed, or it is malformed
   pub record HasNoHeader (out : Outcome S) (due : Due) : Type 0 where
@@ -79,17 +93,6 @@ module _ {S : Type 0} (left : S → Option (List ℕ)) (faults : S → ℕ) (tol
     pub different : AreOfDifferentBooks ends
     pub stopped : AreRead ends
     pub rules_are : (feed : ℕ) → entries.rule_of rules feed ≡ rule_at ends feed
-
-  abbrev pub has_stop : FeedStop → FeedStop → Bool
-  has_stop stops.ReadFault stops.ReadFault = true
-  has_stop stops.Cut stops.Cut = true
-  has_stop _ _ = false
-
-  -- the status of feeds with these ends: a failed read counts before a limit of size
-  abbrev pub status_of : List (FeedEnd S) → ℕ
-  status_of ends =
-      if list_any (λ end. has_stop stops.ReadFault end.stop) ends then NOT_READ
-      else (if list_any (λ end. has_stop stops.Cut end.stop) ends then CUT else DONE)
 
   -- the bodies of all feeds were read, each due match was judged, and the report is due
   pub record HasReport (budget : ℕ) (out : Outcome S) (due : Due) : Type 0 where

@@ -6,3 +6,4 @@ pub mod Opening
 pub mod Reads
 pub mod History
 pub mod Course
+pub mod Causes

@@ -9,7 +9,7 @@ use Rattle.board_definitions.specs.declared.event.FeedStop.TheVariants as stops
 use Rattle.report_text.specs.Stops.{is_reported}
 use Rattle.report_text.specs.Seen.{SeenFeed}
 use Rattle.desk_definitions.specs.declared.feed_end.FeedEnd.{FeedEnd}
-use Rattle.desk_definitions.specs.Ends.{IsReadSo}
+use Rattle.desk_definitions.specs.Ends.{IsFirstLineClear, IsReadSo}
 
 -- what was read of a feed: the bytes taken of its source, and the steps of its lines that were answered
 pub record FeedRead : Type 0 where
@@ -30,6 +30,7 @@ pub record IsBegun {S : Type 0} (left : S → Option (List ℕ)) (faults : S →
   pub header : Header
   pub first : read.lines ≡ step.Header header ∷ []
   pub so_far : IsReadSo left faults told number (record end { stop = stops.NoMemory }) read.text read.lines
+  pub clear : IsFirstLineClear (left end.source) read.text
 
 -- so it is of the feeds from this number on
 abbrev pub AreBegun : {S : Type 0} → (S → Option (List ℕ)) → (S → ℕ) → (ℕ → Option (List ℕ)) → ℕ → List (FeedEnd S) → List FeedRead → Type 0
