@@ -121,3 +121,12 @@ no_header false left text refusal is at_end = by_count (length (answered_lines t
 pub fault_is : (drained : Bool) (text : List ℕ) → steps (not drained) text ≡ step.ReadFault ∷ [] → steps true text ≡ step.ReadFault ∷ []
 fault_is false text is = is
 fault_is true text is = absurd (let h = first_step false text step.ReadFault (ap (λ xs. slice_get xs 0) is) in cc (h))
+
+-- line 1 is clear if it was answered
+pub clear_of : (drained : Bool) (left : Option (List ℕ)) (text : List ℕ) (s : Step) → slice_get (steps (not drained) text) 0 ≡ Some s → (s ≡ step.ReadFault → ⊥) → (drained ≡ true → IsAtEnd left) → IsFirstLineClear left text
+clear_of true left text s item differ at_end = inr (inr (at_end refl))
+clear_of false left text s item differ at_end = by_count (length (answered_lines true text)) refl
+  where
+    by_count : (n : ℕ) → length (answered_lines true text) ≡ n → IsFirstLineClear left text
+    by_count zero e = absurd (let there : Some step.ReadFault ≡ Some s = sym (ap (λ xs. slice_get xs 0) (only_step true text e)) ∙ item in differ (let same : s ≡ step.ReadFault = cc in same))
+    by_count (suc n) e = clear_by left text (is_too_large text) refl (omega (arith, e))

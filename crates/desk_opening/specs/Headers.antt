@@ -8,7 +8,7 @@ use Rattle.feed_text.specs.declared.step.Step.TheVariants as step
 use Rattle.feed_reader.specs.Reader.{ReaderView, answered}
 use Rattle.board_definitions.specs.declared.event.FeedStop.TheVariants as stops
 use Rattle.desk_definitions.specs.declared.feed_end.FeedEnd.{FeedEnd}
-use Rattle.desk_definitions.specs.Ends.{header_in, IsReadSo}
+use Rattle.desk_definitions.specs.Ends.{header_in, IsFirstLineClear, IsReadSo}
 use Rattle.desk_definitions.specs.Reads.{FeedRead, AreBegun, AreReadSo}
 use Rattle.desk_opening.specs.declared.begun.Begun.{Begun}
 use Rattle.desk_opening.specs.declared.begun.HeaderStop.{HeaderStop}
@@ -24,6 +24,7 @@ pub record IsHeaderRead {S : Type 0} (left : S → Option (List ℕ)) (told : Op
   pub not_over : reader.over ≡ false
   pub at_end : reader.drained ≡ true → IsAtEnd (left reader.source)
   pub given : Consumes told (left reader.source) reader.taken
+  pub clear : IsFirstLineClear (left reader.source) reader.taken
 
 -- so it is of the feeds from this number on
 abbrev pub AreHeadersRead : {S : Type 0} → (S → Option (List ℕ)) → (ℕ → Option (List ℕ)) → ℕ → List (Begun S) → Type 0
