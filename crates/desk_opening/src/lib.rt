@@ -9,5 +9,5 @@ mod headers;
 mod opening;
 
 pub use begun::{Begun, HeaderStop, NoHeaders};
-pub use headers::read_headers;
+pub use headers::{begun_ends, read_headers};
 pub use opening::{NotOpened, open_all};
