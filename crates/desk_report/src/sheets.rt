@@ -5,7 +5,10 @@ ghost use Rattle.board_definitions.specs.Sheets.{sheet};
 
 use board_definitions::Law;
 use quote_board::Board;
-use scan_types::{LEAST_ODDS, MOST_OFFERS, MOST_STANDING, Name, Odds, Offer, Selection, Sheet, VoidRule, WantOfMemory};
+use scan_types::{
+    LEAST_ODDS, MOST_OFFERS, MOST_STANDING, Name, Odds, Offer, Selection, Sheet, VoidRule,
+    WantOfMemory,
+};
 use std::alloc::Global;
 
 // Some offer, for the places into which offers are copied.
