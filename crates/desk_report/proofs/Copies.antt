@@ -1,6 +1,6 @@
 -- Fronts of a sheet, and a sheet that is copied part by part.
-use Rattle.std.proofs.Common.{ℕ, ◌≡◌, ◌+◌, ◌-◌, ◌<◌, ◌≤◌, List, [], ◌∷◌, ◌++◌, length, get_or, take, drop, refl, sym, ap, subst, ◌∙◌, arith, zero, suc, Some, min}
-use Rattle.std.specs.Prelude.{Option, IfSome, slice_get, slice_index_or}
+use Rattle.std.proofs.Common.{ℕ, ◌≡◌, ◌+◌, ◌-◌, ◌<◌, ◌≤◌, List, ◌++◌, length, get_or, take, drop, sym, ap, subst, ◌∙◌, arith, zero, suc, Some}
+use Rattle.std.specs.Prelude.{Option, IfSome, slice_get}
 use Rattle.std.proofs.lemmas.List.{take-append-drop, drop-take, length-take, get_or-take, length-take-le, take-append-le, take_all, length-append, length-drop}
 use Rattle.std.proofs.lemmas.Option.{slice_get-get_or}
 use Rattle.std.proofs.lemmas.List.{get_or-append-add}

@@ -1,16 +1,14 @@
 -- The finding at a mark is the finding of the newest sheet.
-use Rattle.std.proofs.Common.{ℕ, ◌≡◌, ◌<◌, ◌≤◌, ◌-◌, ◌+◌, Bool, true, false, cond, List, [], ◌∷◌, ◌++◌, length, take, drop, zero, suc, refl, sym, ap, subst, ◌∙◌, Some, None, arith, inl, inr}
-use Rattle.std.specs.Prelude.{◌&&◌, ◌==◌, Option, IfSome, IsSome, option_and_then, slice_get}
+use Rattle.std.proofs.Common.{ℕ, ◌≡◌, ◌<◌, ◌≤◌, Bool, true, false, cond, List, [], ◌∷◌, ◌++◌, length, take, drop, zero, suc, refl, sym, ap, subst, ◌∙◌, Some, arith, inl, inr}
+use Rattle.std.specs.Prelude.{◌&&◌, Option, option_and_then, slice_get}
 use Rattle.std.specs.List.{filter_map, range_with_len}
-use Rattle.std.specs.Str.{bytes_eq}
 use Rattle.std.proofs.lemmas.Bool.{cases_lt}
-use Rattle.std.proofs.lemmas.List.{take-append-drop, take-append-le, length-take, take_all}
+use Rattle.std.proofs.lemmas.List.{take-append-drop, take-append-le, length-take}
 use Rattle.std.proofs.lemmas.Option.{slice_get_within}
 use Rattle.scan_types.specs.declared.limits.TheConstants.{MOST_FEEDS}
 use Rattle.scan_types.specs.declared.rule.VoidRule.{VoidRule}
 use Rattle.scan_types.specs.declared.offer.Offer.{Offer}
 use Rattle.finding_definitions.specs.declared.finding.Finding.{Finding}
-use Rattle.judging_definitions.specs.ExactFinding.{IsFindingOf}
 use Rattle.board_definitions.specs.declared.key.TheConstants.{SELECTIONS}
 use Rattle.board_definitions.specs.declared.event.Event.{Event}
 use Rattle.board_definitions.specs.declared.event.Event.TheVariants.{Quoted, Withdrawn, Ended, Pinned, Filed, Released}
@@ -21,10 +19,9 @@ use Rattle.board_definitions.specs.Legal.{IsLegal}
 use Rattle.board_definitions.proofs.Changes.{standing-push}
 use Rattle.board_definitions.proofs.Live.{take_next, slice_get-before}
 use Rattle.report_text_laws.proofs.Through.{filter_map-same, flat_map-same}
-use Rattle.desk_report.specs.declared.marks.Mark.{Mark}
 use Rattle.desk_report.specs.Marks.{pinned_by, pinned_name}
 use Rattle.desk_report.specs.Judged.{filed_by, filed_at}
-use Rattle.desk_report.proofs.Sound.{IsFiledAt, IsMark}
+use Rattle.desk_report.proofs.Sound.{IsFiledAt}
 
 no_and : (a b : Bool) → a ≡ false → (a && b) ≡ false
 no_and true b e = absurd (cc e)
@@ -56,13 +53,13 @@ same_sheet rules h m version zero order within none =
     ap (λ (k : ℕ). standing_sheet rules (take k h) m) at
 same_sheet rules h m version (suc n) order within none = elim (cases_lt n version) [
   | inl behind ↦
-    let at : suc n ≡ version = omega (arith, order, behind) in
-    ap (λ (k : ℕ). standing_sheet rules (take k h) m) at
+      let at : suc n ≡ version = omega (arith, order, behind) in
+      ap (λ (k : ℕ). standing_sheet rules (take k h) m) at
   | inr past ↦
-    let next = take_next h n (omega (arith, within)) in
-    ap (λ (xs : List Entry). standing_sheet rules xs m) next.2
-    ∙ (one_same rules (take n h) next.0 m (none n next.0 past (omega arith) next.1)
-    ∙ same_sheet rules h m version n past (omega (arith, within)) (λ place e from before there. none place e from (omega (arith, before)) there))
+      let next = take_next h n (omega (arith, within)) in
+      ap (λ (xs : List Entry). standing_sheet rules xs m) next.2
+      ∙ (one_same rules (take n h) next.0 m (none n next.0 past (omega arith) next.1)
+      ∙ same_sheet rules h m version n past (omega (arith, within)) (λ place e from before there. none place e from (omega (arith, before)) there))
 ]
 
 -- the first entries of a longer front

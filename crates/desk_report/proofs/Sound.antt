@@ -1,13 +1,12 @@
 -- What a mark says is so, and each match that was quoted has one.
-use Rattle.std.proofs.Common.{ℕ, ◌≡◌, ◌<◌, ◌≤◌, ◌+◌, Bool, true, false, cond, List, [], ◌∷◌, ◌++◌, length, take, zero, suc, refl, sym, ap, subst, ◌∙◌, Some, None, arith, inl, inr}
-use Rattle.std.specs.Prelude.{◌&&◌, ◌||◌, nat_lt, Option, IfSome, IsSome, option_map, slice_get}
+use Rattle.std.proofs.Common.{ℕ, ◌≡◌, ◌<◌, ◌≤◌, Bool, true, false, cond, List, [], ◌∷◌, length, take, zero, suc, refl, sym, ap, subst, ◌∙◌, Some, None, arith, inl, inr}
+use Rattle.std.specs.Prelude.{◌||◌, nat_lt, Option, IfSome, IsSome, option_map, slice_get}
 use Rattle.std.specs.Option.{is_some}
 use Rattle.std.specs.List.{list_any}
 use Rattle.std.specs.Str.{bytes_eq}
 use Rattle.std.proofs.lemmas.Bool.{cases_lt, ltb-true, lt-ltb}
 use Rattle.std.proofs.Math.Bool.{or-false, or-true}
 use Rattle.std.proofs.lemmas.List.Folds.{list_any-append}
-use Rattle.std.proofs.lemmas.Option.{slice_get_within}
 use Rattle.std.proofs.lemmas.Slice.Eq.{bytes_eq-Decides}
 use Rattle.finding_definitions.specs.declared.finding.Finding.{Finding}
 use Rattle.board_definitions.specs.declared.event.Event.{Event}
@@ -52,9 +51,9 @@ extend_mark h n m e mark is same old = record {
   after = λ place d behind within there. elim (cases_lt place n) [
     | inl before ↦ old.after place d behind before there
     | inr past ↦
-      let here : place ≡ n = omega (arith, past, within) in
-      let one : e ≡ d = one_entry h n e d is (ap (slice_get h) (sym here) ∙ there) in
-      ap (λ (x : Entry). changes m x.event) (sym one) ∙ same
+        let here : place ≡ n = omega (arith, past, within) in
+        let one : e ≡ d = one_entry h n e d is (ap (slice_get h) (sym here) ∙ there) in
+        ap (λ (x : Entry). changes m x.event) (sym one) ∙ same
   ];
   filed = old.filed;
 }
@@ -215,10 +214,10 @@ marks_found h m new order (suc n) behind within =
     let next = take_next h n (omega (arith, within)) in
     subst HasFiled (sym (mark_next h n next.0 m next.1)) (elim (cases_lt new.filed n) [
       | inl before ↦
-        step_keeps h n m next.0.event (mark_at h n m) (new.newest n next.0 (omega (arith, before, order)) next.1) (marks_found h m new order n before (omega (arith, within)))
+          step_keeps h n m next.0.event (mark_at h n m) (new.newest n next.0 (omega (arith, before, order)) next.1) (marks_found h m new order n before (omega (arith, within)))
       | inr past ↦
-        let here : new.filed ≡ n = omega (arith, past, behind) in
-        let entry : record { caller = new.caller; event = Filed new.version new.finding } ≡ next.0 = one_entry h n _ next.0 (ap (slice_get h) (sym here) ∙ new.is_filed) next.1 in
-        subst (λ (e : Entry). HasFiled (mark_step h n e.event m (mark_at h n m))) entry
-        (step_files h n m new.version (mark_at h n m) new.pinned (change_before h m new n (mark_at h n m) (marks_sound h m n (omega (arith, within)))))
+          let here : new.filed ≡ n = omega (arith, past, behind) in
+          let entry : record { caller = new.caller; event = Filed new.version new.finding } ≡ next.0 = one_entry h n _ next.0 (ap (slice_get h) (sym here) ∙ new.is_filed) next.1 in
+          subst (λ (e : Entry). HasFiled (mark_step h n e.event m (mark_at h n m))) entry
+          (step_files h n m new.version (mark_at h n m) new.pinned (change_before h m new n (mark_at h n m) (marks_sound h m n (omega (arith, within)))))
     ])

@@ -1,5 +1,5 @@
 -- What the history says of each match: where it was last changed, and where a finding was filed for it after that.
-use Rattle.std.specs.Prelude.{ℕ, zero, suc, Bool, nat_lt, List, Option, Some, None, option_map, option_and_then, slice_get, if◌then◌else◌}
+use Rattle.std.specs.Prelude.{ℕ, zero, suc, nat_lt, List, Option, Some, None, option_map, option_and_then, slice_get, if◌then◌else◌}
 use Rattle.std.specs.Option.{option_map_or}
 use Rattle.std.specs.BTreeMap.{BTreeMap, get}
 use Rattle.std.specs.Cmp.Lexicographic.{slice_cmp}

@@ -1,13 +1,14 @@
 use Rattle.std.proofs.Common.{ℕ, ◌≡◌, ◌≤◌, ◌<◌, List, [], ◌∷◌, ◌++◌, length, map, Some, subst, arith, rules}
 use Rattle.std.specs.Prelude.{Option, IfSome, IsSome, option_and_then, vec_len, vec_capacity}
 use Rattle.std.specs.BTreeMap.{get}
+use Rattle.std.specs.List.{AllZip}
 use Rattle.std.specs.Map.Iter.{deref_pair}
 use Rattle.std.specs.Cmp.Lexicographic.{slice_cmp, nat_list_cmp_total}
 use Rattle.std.specs.Ordering.{nat_cmp}
 use Rattle.std.proofs.lemmas.List.{map-append, length-map}
 use Rattle.std.proofs.lemmas.Grind.{common_steps}
 use Rattle.desk_report.proofs.Zips.{AllZip-push_pair, length-all_zip}
-use Rattle.std.proofs.lemmas.Map.Iter.{btree_map_turn}
+use Rattle.std.proofs.lemmas.Map.Iter.{btree_map_turn, iter_end}
 use Rattle.report_text.specs.declared.match_part.MatchPart.{MatchPart}
 use Rattle.desk_report.specs.declared.marks.Mark.{Mark}
 use Rattle.desk_report.specs.Judged.{filed_at, IsPart}
@@ -41,3 +42,9 @@ loop-match_name-preserved g c = record {
       (c.in-Some.match_name.now, c.in-Some.mark.now) c.in_ok-part.part c.loop-match_name.invariant.parts c.in_ok-part.ensures);
   room = let room = c.loop-match_name.invariant.room in let grown = c.push-pushed.ensures.capacity in omega arith;
 }
+
+pub returns-clause-parts : goal.returns-clause-parts
+returns-clause-parts g c =
+    let whole : map deref_pair c.loop-match_name.yielded ≡ c.args.marks.now.entries = search (rules, iter_end) in
+    subst (λ (es : List (List ℕ × Mark)). AllZip (λ (entry : List ℕ × Mark) (part : MatchPart). IsPart c.args.board.now.fixed.rules c.args.board.now.history entry.0 entry.1 part) es c.loop-match_name.parts.items)
+    whole c.loop-match_name.invariant.parts
