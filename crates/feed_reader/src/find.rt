@@ -1,0 +1,10 @@
+//! The first of some bytes.
+ghost use Rattle.std.specs.Prelude.{◌≡◌, ◌==◌};
+ghost use Rattle.std.specs.List.{position};
+
+/// The index of the first of these bytes.
+pub fn find(text: &[u8], wanted: u8) -> Option<usize>
+    ensures { result ≡ position (λ byte. byte == wanted) text.now }
+{
+    text.iter().position(|byte| *byte == wanted)
+}
