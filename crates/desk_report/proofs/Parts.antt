@@ -27,7 +27,7 @@ use Rattle.report_text_laws.specs.Boards.{HoldsLinesOf, quotes_match}
 use Rattle.report_text_laws.proofs.Boards.{same_sheets, same_matches}
 use Rattle.desk_report.specs.declared.marks.Mark.{Mark}
 use Rattle.desk_report.specs.Marks.{mark_in, mark_at}
-use Rattle.desk_report.specs.Judged.{filed_at, HasNewFinding, IsJudged, AllowsFindings, IsPart}
+use Rattle.desk_report.specs.Judged.{filed_at, HasNewFinding, HasFindings, AllowsFindings, IsPart}
 use Rattle.desk_report.proofs.Zips.{AllZip-at, length-all_zip}
 use Rattle.desk_report.proofs.Sound.{IsFiledAt, IsMark, HasFiled, marks_sound, marks_quoted, marks_found}
 use Rattle.desk_report.proofs.Newest.{found_is, pin_is_earlier, filed_there}
@@ -41,7 +41,7 @@ filed_some h m changed None some is = absurd (cc some)
 filed_some h m changed (Some place) some is = ap is_some (filed_there h m changed place is)
 
 -- each mark of a judged history has a finding
-pub has_finding : (rules : List (Option VoidRule)) (allows : List Offer → Finding → Type 0) (h : List Entry) → IsLegal rules allows h → IsJudged h → (m : List ℕ) (o : Option Mark) → o ≡ mark_at h (length h) m
+pub has_finding : (rules : List (Option VoidRule)) (allows : List Offer → Finding → Type 0) (h : List Entry) → IsLegal rules allows h → HasFindings h → (m : List ℕ) (o : Option Mark) → o ≡ mark_at h (length h) m
     → IfSome o (λ mark. IsSome (option_and_then (filed_at h) mark.filed))
 has_finding rules allows h legal judged m None at = tt
 has_finding rules allows h legal judged m (Some mark) at =

@@ -35,8 +35,8 @@ pub record HasNewFinding (history : List Entry) (match_name : List ℕ) : Type 0
   pub newest : (place : ℕ) (entry : Entry) → version ≤ place → slice_get history place ≡ Some entry → changes match_name entry.event ≡ false
 
 -- each match that is quoted has such a finding
-abbrev pub IsJudged : List Entry → Type 0
-IsJudged history = (match_name : List ℕ) → list_any (quotes_match match_name) history ≡ true → HasNewFinding history match_name
+abbrev pub HasFindings : List Entry → Type 0
+HasFindings history = (match_name : List ℕ) → list_any (quotes_match match_name) history ≡ true → HasNewFinding history match_name
 
 -- what a law allows is the finding of the sheet with this budget
 abbrev pub AllowsFindings : ℕ → (List Offer → Finding → Type 0) → Type 0

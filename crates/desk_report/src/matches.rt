@@ -8,7 +8,7 @@ ghost use Rattle.report_text.specs.Seen.{SeenFeed};
 ghost use Rattle.report_text.specs.Report.{AreMatchesOf};
 ghost use Rattle.report_text_laws.specs.Boards.{HoldsLinesOf};
 ghost use Rattle.desk_report.specs.Marks.{mark_in};
-ghost use Rattle.desk_report.specs.Judged.{filed_at, IsJudged, AllowsFindings, IsPart};
+ghost use Rattle.desk_report.specs.Judged.{filed_at, HasFindings, AllowsFindings, IsPart};
 
 use crate::marks::{Mark, marks_of};
 use crate::sheets::newest_sheet;
@@ -90,7 +90,7 @@ fn parts_of<W: Law>(
 /// Each match that was quoted has such a finding. Costs a search among the matches for each entry of the history, and memory for what it
 /// returns and for the marks. Fails only if no memory is left.
 pub fn make_matches<W: Law>(alloc: Global, board: &Board<W>) -> Result<MatchParts, WantOfMemory>
-    requires { IsJudged board.now.history }
+    requires { HasFindings board.now.history }
     ensures { IfOk result (λ matches. (budget : ℕ) → AllowsFindings budget (W.allows board.now.fixed.law) →
         (feeds : List SeenFeed) → HoldsLinesOf feeds board.now.fixed.rules board.now.history → AreMatchesOf budget feeds matches) }
 {
