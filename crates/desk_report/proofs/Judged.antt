@@ -1,24 +1,22 @@
 -- Where every due match is judged, each match that is quoted has a finding for a pin after its last change.
-use Rattle.std.proofs.Common.{ℕ, ◌≡◌, ◌<◌, ◌≤◌, ◌+◌, Bool, true, false, List, [], ◌∷◌, ◌++◌, length, drop, zero, suc, refl, sym, ap, subst, ◌∙◌, Some, None, arith, inl, inr}
+use Rattle.std.proofs.Common.{ℕ, ◌≡◌, ◌<◌, ◌≤◌, Bool, true, false, List, [], ◌∷◌, ◌++◌, length, drop, zero, suc, refl, sym, ap, subst, ◌∙◌, Some, arith, inl, inr}
 use Rattle.std.specs.Prelude.{◌⊎◌, ◌||◌, Option, IsTrue, IsSomeAnd, option_and_then, slice_get}
 use Rattle.std.specs.List.{list_any}
 use Rattle.std.specs.Str.{bytes_eq}
 use Rattle.std.proofs.lemmas.Bool.{cases_lt, cases_Bool, or_from, or_parts, and_parts}
 use Rattle.std.proofs.Math.Bool.{or-false}
-use Rattle.std.proofs.lemmas.List.{drop-append-le, length-append}
-use Rattle.std.proofs.lemmas.List.Folds.{list_any-append, Any-from_list_any, list_any_none}
+use Rattle.std.proofs.lemmas.List.{drop-append-le}
+use Rattle.std.proofs.lemmas.List.Folds.{list_any-append, Any-from_list_any}
 use Rattle.std.proofs.lemmas.Option.{slice_get_within, slice_get-get_or}
 use Rattle.std.proofs.lemmas.Slice.Eq.{bytes_eq-Decides}
 use Rattle.scan_types.specs.declared.rule.VoidRule.{VoidRule}
 use Rattle.scan_types.specs.declared.offer.Offer.{Offer}
 use Rattle.finding_definitions.specs.declared.finding.Finding.{Finding}
-use Rattle.board_definitions.specs.declared.event.Event.{Event}
-use Rattle.board_definitions.specs.declared.event.Event.TheVariants.{Quoted, Withdrawn, Ended, Pinned, Filed, Released}
 use Rattle.board_definitions.specs.declared.event.Entry.{Entry}
 use Rattle.board_definitions.specs.Entries.{changes, pins}
-use Rattle.board_definitions.specs.Pins.{IsUnpinnedChange, IsDue}
+use Rattle.board_definitions.specs.Pins.{IsDue}
 use Rattle.board_definitions.proofs.Live.{slice_get-before}
-use Rattle.board_definitions.proofs.More.{change_at, change_within}
+use Rattle.board_definitions.proofs.More.{change_within}
 use Rattle.report_text_laws.specs.Boards.{quotes_match}
 use Rattle.desk_definitions.specs.Judged.{pinned_entry, filed_entry, JudgesLongestDue, JudgesSoMany, IsAllJudged}
 use Rattle.desk_report.specs.Marks.{pinned_by, pinned_name}
