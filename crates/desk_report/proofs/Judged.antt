@@ -21,7 +21,7 @@ use Rattle.report_text_laws.specs.Boards.{quotes_match}
 use Rattle.desk_definitions.specs.Judged.{pinned_entry, filed_entry, JudgesLongestDue, JudgesSoMany, IsAllJudged}
 use Rattle.desk_report.specs.Marks.{pinned_by, pinned_name}
 use Rattle.desk_report.specs.Judged.{HasNewFinding, HasFindings}
-use Rattle.desk_report.specs.Pins.{HasNoPins}
+use Rattle.desk_report.specs.Histories.{HasNoPins}
 
 first_behind : {X : Type 0} (xs : List X) (y z : X) → slice_get (xs ++ y ∷ z ∷ []) (length xs) ≡ Some y
 first_behind [] y z = refl

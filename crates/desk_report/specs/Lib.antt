@@ -1,3 +1,3 @@
 pub mod Marks
 pub mod Judged
-pub mod Pins
+pub mod Histories
