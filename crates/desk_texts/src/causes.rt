@@ -1,0 +1,28 @@
+ghost use Rattle.std.specs.Prelude.{◌≡◌, ◌≤◌, length};
+ghost use Rattle.report_text.specs.Words.{cause_text};
+
+use feed_text::Cause;
+
+// The word of why a line was refused.
+pub(crate) fn cause_word(cause: Cause) -> &'static [u8]
+    ensures value { result.now ≡ cause_text cause }
+    ensures short { length result.now ≤ 14 }
+{
+    match cause {
+        Cause::Missing => b"Missing",
+        Cause::Extra => b"Extra",
+        Cause::UnknownWord => b"UnknownWord",
+        Cause::BadName => b"BadName",
+        Cause::BadLine => b"BadLine",
+        Cause::LineRange => b"LineRange",
+        Cause::BadOdds => b"BadOdds",
+        Cause::OddsRange => b"OddsRange",
+        Cause::BadLimit => b"BadLimit",
+        Cause::LimitRange => b"LimitRange",
+        Cause::TooLong => b"TooLong",
+        Cause::NotAscii => b"NotAscii",
+        Cause::TooManyMatches => b"TooManyMatches",
+        Cause::TooManyOffers => b"TooManyOffers",
+        Cause::NotQuoted => b"NotQuoted",
+    }
+}
