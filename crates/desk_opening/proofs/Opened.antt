@@ -3,7 +3,7 @@ use Rattle.std.proofs.Common.{◌≡◌, ◌≢◌, ℕ, zero, suc, ◌+◌, ◌
 use Rattle.std.specs.Bool.{⊤}
 use Rattle.std.specs.Option.{option_and_then}
 use Rattle.std.specs.Str.{bytes_eq}
-use Rattle.std.proofs.lemmas.List.{take_more}
+use Rattle.std.proofs.lemmas.List.{take_more, take-append-drop}
 use Rattle.std.proofs.lemmas.List.Sums.{sum_by-append}
 use Rattle.std.proofs.lemmas.Slice.Eq.{bytes_eq-Decides}
 use Rattle.outside_definitions.specs.Opener.{Told, OpensFirst, SameUnderAll, SameUnderOthers, OpenedUnder, TakenUnder, times, next_under}
@@ -136,3 +136,13 @@ lacks first now names k name is stays opened none_now = lacks_at first now names
 -- an opening that failed changes nothing that is told
 pub taken_still : (names : List (List ℕ)) (first now after : Told) → TakenUnder names first now → SameUnderAll now after → TakenUnder names first after
 taken_still names first now after taken same name = same name ∙ taken name
+
+-- a name stands once more among all names than among those before it
+pub times_before : (names : List (List ℕ)) (k : ℕ) → k < length names → times (get_or names k []) (take k names) < times (get_or names k []) names
+times_before names k lt =
+    let name = get_or names k [] in
+    let whole : times name names ≡ times name (take (k + 1) names) + times name (drop (k + 1) names) =
+    ap (λ xs. times name xs) (sym (take-append-drop (k + 1) names)) ∙ sum_by-append (λ n. cond (bytes_eq n name) 1 0) (take (k + 1) names) (drop (k + 1) names) in
+    let first : times name (take (k + 1) names) ≡ times name (take k names) + 1 =
+    ap (λ xs. times name xs) (take_more names k [] lt) ∙ times_more name name (take k names) ∙ ap (λ b. times name (take k names) + cond b 1 0) ((bytes_eq-Decides name name).1 refl) in
+    omega (arith, whole, first)
