@@ -1,6 +1,5 @@
 use board_definitions::FeedStop;
-use feed_text::Header;
-use report_text::Refusals;
+use feed_text::{Header, Refusals};
 
 /// A feed that was begun, as it was left.
 #[derive(Drop)]
