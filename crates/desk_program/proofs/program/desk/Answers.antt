@@ -1,0 +1,102 @@
+use Rattle.std.proofs.Common.{rules, ◌≡◌, ℕ, List, Some, None, Err, length, map, string_bytes, Global, refl, sym, ap, subst, inl, inr, ◌∙◌}
+use Rattle.std.proofs.lemmas.List.{length-map}
+use Rattle.clap.specs.Words.{Text}
+use Rattle.board_definitions.specs.declared.event.FeedStop.TheVariants as stops
+use Rattle.desk_words.specs.Commands.{command_of}
+use Rattle.desk_definitions.specs.Seen.{opener_seen, sink_seen}
+use Rattle.desk_definitions.specs.Opening.{LacksSource}
+use Rattle.desk_definitions.specs.Causes.{HaveRun, HaveTwins}
+use Rattle.desk_program.proofs.Commands.{course_of_once, course_of_none, course_without_memory, same_feeds, asks_nothing}
+use Rattle.desk_program.proofs.program.desk.Goals as goal
+
+pub returns-in-Ok-clause-course : goal.returns-in-Ok-clause-course
+returns-in-Ok-clause-course g c =
+    let words = map (string_bytes {Z = Global}) c.args.words.now in
+    course_of_once g.O.S.Source.left g.O.S.Source.faults words _ _ _ _ _ _ _
+    (c.in-Ok.ensures.command ∙ ap Some c.once_words-pivots.ensures) c.names.ensures c.once.ensures.course
+
+pub returns-in-Ok-clause-no_command_due : goal.returns-in-Ok-clause-no_command_due
+returns-in-Ok-clause-no_command_due g c = λ none. absurd (c.in-Ok.ensures.no_command_due none)
+
+pub returns-in-Ok-clause-untouched : goal.returns-in-Ok-clause-untouched
+returns-in-Ok-clause-untouched g c = λ none. absurd (c.in-Ok.ensures.no_command_due none)
+
+pub returns-in-Ok-clause-not_opened_due : goal.returns-in-Ok-clause-not_opened_due
+returns-in-Ok-clause-not_opened_due g c = λ pivots feeds k asks lacks.
+    let words = map (string_bytes {Z = Global}) c.args.words.now in
+    let told = g.O.Opener.told c.args.opener.now in
+    let P : List Text → Type 0 = λ names. LacksSource told names k in
+    c.once.ensures.not_opened_due k
+    (subst P (same_feeds words pivots _ feeds _ asks (c.in-Ok.ensures.command ∙ ap Some c.once_words-pivots.ensures) ∙ sym c.names.ensures) lacks)
+
+pub returns-in-Ok-clause-not_read_due : goal.returns-in-Ok-clause-not_read_due
+returns-in-Ok-clause-not_read_due g c = λ pivots feeds asks ran.
+    let words = map (string_bytes {Z = Global}) c.args.words.now in
+    let same = same_feeds words pivots _ feeds _ asks (c.in-Ok.ensures.command ∙ ap Some c.once_words-pivots.ensures) ∙ sym c.names.ensures in
+    let P : ℕ → Type 0 = λ n. HaveRun n c.once.result.feeds.items in
+    c.once.ensures.not_read_due (subst P (ap length same ∙ length-map c.names.result.now (string_bytes {Z = Global})) ran)
+
+pub returns-in-Ok-clause-one_book_due : goal.returns-in-Ok-clause-one_book_due
+returns-in-Ok-clause-one_book_due g c = λ pivots feeds asks twins.
+    let words = map (string_bytes {Z = Global}) c.args.words.now in
+    let same = same_feeds words pivots _ feeds _ asks (c.in-Ok.ensures.command ∙ ap Some c.once_words-pivots.ensures) ∙ sym c.names.ensures in
+    let P : ℕ → Type 0 = λ n. HaveTwins n c.once.result.feeds.items in
+    c.once.ensures.one_book_due (subst P (ap length same ∙ length-map c.names.result.now (string_bytes {Z = Global})) twins)
+
+pub returns-in-Ok-clause-cut_due : goal.returns-in-Ok-clause-cut_due
+returns-in-Ok-clause-cut_due g c = λ pivots feeds asks ran.
+    let words = map (string_bytes {Z = Global}) c.args.words.now in
+    let same = same_feeds words pivots _ feeds _ asks (c.in-Ok.ensures.command ∙ ap Some c.once_words-pivots.ensures) ∙ sym c.names.ensures in
+    let P : ℕ → Type 0 = λ n. HaveRun n c.once.result.feeds.items in
+    c.once.ensures.cut_due (subst P (ap length same ∙ length-map c.names.result.now (string_bytes {Z = Global})) ran)
+
+pub returns-in-Ok-clause-bad_header : goal.returns-in-Ok-clause-bad_header
+returns-in-Ok-clause-bad_header g c = λ six.
+    let P : ℕ → Type 0 = λ n. HaveTwins n c.once.result.feeds.items in
+    let each = sym (length-map c.names.result.now (string_bytes {Z = Global})) ∙ ap length c.names.ensures in
+    elim (c.once.ensures.bad_header six) [
+      | inl none ↦ inl none
+      | inr twins ↦ inr (_, _, c.in-Ok.ensures.command ∙ ap Some c.once_words-pivots.ensures, subst P each twins)
+    ]
+
+pub returns-in-Err-NoCommand-clause-course : goal.returns-in-Err-NoCommand-clause-course
+returns-in-Err-NoCommand-clause-course g c =
+    let words = map (string_bytes {Z = Global}) c.args.words.now in
+    let none = (c.no_command_has_a_cause.ensures words).1 (c.in-Err-NoCommand.ensures.no_command (ap Err c.in-Err-NoCommand.field-0-is)) in
+    course_of_none g.O.S.Source.left g.O.S.Source.faults words _ _ _ _ none refl refl c.unbegun.ensures.unbegun (rw c.unbegun.ensures.status c.refused.ensures.written)
+
+pub returns-in-Err-NoCommand-clause-well_formed : goal.returns-in-Err-NoCommand-clause-well_formed
+returns-in-Err-NoCommand-clause-well_formed g c = λ pivots feeds spelled two.
+    let wanted = c.in-Err-NoCommand.ensures.well_formed pivots feeds spelled in
+    absurd (cc (wanted, c.in-Err-NoCommand.field-0-is))
+
+pub returns-in-Err-NoCommand-clause-not_opened_due : goal.returns-in-Err-NoCommand-clause-not_opened_due
+returns-in-Err-NoCommand-clause-not_opened_due g c = λ pivots feeds k asks lacks.
+    let words = map (string_bytes {Z = Global}) c.args.words.now in
+    let none = (c.no_command_has_a_cause.ensures words).1 (c.in-Err-NoCommand.ensures.no_command (ap Err c.in-Err-NoCommand.field-0-is)) in
+    absurd (asks_nothing words pivots feeds none asks)
+
+pub returns-in-Err-NoCommand-clause-not_read_due : goal.returns-in-Err-NoCommand-clause-not_read_due
+returns-in-Err-NoCommand-clause-not_read_due g c = λ pivots feeds asks ran.
+    let words = map (string_bytes {Z = Global}) c.args.words.now in
+    let none = (c.no_command_has_a_cause.ensures words).1 (c.in-Err-NoCommand.ensures.no_command (ap Err c.in-Err-NoCommand.field-0-is)) in
+    absurd (asks_nothing words pivots feeds none asks)
+
+pub returns-in-Err-NoCommand-clause-one_book_due : goal.returns-in-Err-NoCommand-clause-one_book_due
+returns-in-Err-NoCommand-clause-one_book_due g c = λ pivots feeds asks twins.
+    let words = map (string_bytes {Z = Global}) c.args.words.now in
+    let none = (c.no_command_has_a_cause.ensures words).1 (c.in-Err-NoCommand.ensures.no_command (ap Err c.in-Err-NoCommand.field-0-is)) in
+    absurd (asks_nothing words pivots feeds none asks)
+
+pub returns-in-Err-NoCommand-clause-cut_due : goal.returns-in-Err-NoCommand-clause-cut_due
+returns-in-Err-NoCommand-clause-cut_due g c = λ pivots feeds asks ran.
+    let words = map (string_bytes {Z = Global}) c.args.words.now in
+    let none = (c.no_command_has_a_cause.ensures words).1 (c.in-Err-NoCommand.ensures.no_command (ap Err c.in-Err-NoCommand.field-0-is)) in
+    absurd (asks_nothing words pivots feeds none asks)
+
+pub returns-in-Err-WantOfMemory-clause-course : goal.returns-in-Err-WantOfMemory-clause-course
+returns-in-Err-WantOfMemory-clause-course g c =
+    let O = g.O.Opener in
+    let words = map (string_bytes {Z = Global}) c.args.words.now in
+    course_without_memory g.O.S.Source.left g.O.S.Source.faults (command_of words) (O.told c.args.opener.now) (O.opens_told c.args.opener.now)
+    (O.faults c.args.opener.now) _ _ _ c.unbegun-in-Err-WantOfMemory.ensures.status c.unbegun-in-Err-WantOfMemory.ensures.unbegun (search rules)
