@@ -27,18 +27,18 @@ same_text {E = E} {a = a} {b = b} {f = f} {g = g} {r = r} w y e = subst (λ (t :
 -- a text, and then another, in whole or cut short
 pub and_then : {E : Type 0} {a b c : Option (List ℕ)} {f g h : ℕ} {x y : List ℕ} {u : Unit {0}} {r : Result Unit E} → Wrote {E = E} a b f g x (Ok u) → Wrote b c g h y r → Wrote a c f h (x ++ y) r
 and_then {a = a} {b = b} {c = c} {x = x} {y = y} {r = Ok v} p q =
-    record { written = Appends-trans a b c x y p.written q.written; cut_short = tt; failed = tt; faults_kept = omega (arith, p.faults_kept, q.faults_kept) }
+    record { written = Appends-trans a b c x y p.written q.written; cut_short = tt; failed = tt; no_fault = q.no_fault ∙ p.no_fault; faults_kept = omega (arith, p.faults_kept, q.faults_kept) }
 and_then {a = a} {b = b} {c = c} {x = x} {y = y} {r = Err e} p q =
-    record { written = tt; cut_short = prefix_second a b c x y p.written q.cut_short; failed = omega (arith, p.faults_kept, q.failed); faults_kept = omega (arith, p.faults_kept, q.faults_kept) }
+    record { written = tt; cut_short = prefix_second a b c x y p.written q.cut_short; failed = omega (arith, p.faults_kept, q.failed); no_fault = tt; faults_kept = omega (arith, p.faults_kept, q.faults_kept) }
 
 -- a text that was cut short, and another behind it
 pub cut : {E : Type 0} {a b : Option (List ℕ)} {f g : ℕ} {x : List ℕ} {e : E} → Wrote {E = E} a b f g x (Err e) → (y : List ℕ) (r : Result Unit E) → IsErr r → Wrote a b f g (x ++ y) r
 cut p y (Ok u) h = absurd cc
 cut {a = a} {b = b} {x = x} p y (Err d) h =
-    record { written = tt; cut_short = prefix_first a b x y p.cut_short; failed = p.failed; faults_kept = p.faults_kept }
+    record { written = tt; cut_short = prefix_first a b x y p.cut_short; failed = p.failed; no_fault = tt; faults_kept = p.faults_kept }
 
 pub nothing : {E : Type 0} (a : Option (List ℕ)) (f : ℕ) (u : Unit {0}) → Wrote {E = E} a a f f [] (Ok u)
-nothing a f u = record { written = Appends-nil a; cut_short = tt; failed = tt; faults_kept = omega arith }
+nothing a f u = record { written = Appends-nil a; cut_short = tt; failed = tt; no_fault = refl; faults_kept = omega arith }
 
 -- the fields after the first each follow a space
 pub join_spaced : (word : List ℕ) (fields : List (List ℕ)) → join_with_byte 32 (word ∷ fields) ≡ word ++ spaced fields

@@ -20,6 +20,7 @@ pub fn put_finding<K: Sink>(finding: &Finding, sink: &mut K) -> Result<(), Write
     ensures written { OnOk result (Appends (K.written sink.old) (K.written sink.new) (finding_text finding.now)) }
     ensures cut_short { OnErr result (AppendsPrefix (K.written sink.old) (K.written sink.new) (finding_text finding.now)) }
     ensures failed { OnErr result (Rose (K.faults sink.old) (K.faults sink.new)) }
+    ensures no_fault { OnOk result (K.faults sink.new ≡ K.faults sink.old) }
     ensures faults_kept { K.faults sink.old ≤ K.faults sink.new }
 {
     put_fields(finding, sink)

@@ -37,3 +37,6 @@ pub use measure::read_measure;
 pub use offer_list::{OfferList, leading};
 pub use parts::read_parts;
 pub use programs::{homogeneous, limited, runs_may_begin};
+
+#[cfg(test)]
+mod tests;

@@ -18,7 +18,8 @@ use Rattle.desk_definitions.specs.Seen.{OpenerSeen, SinkSeen, Due, IsWritten}
 use Rattle.desk_definitions.specs.Opening.{told_bytes, OpensAll, FailsAt, StopsAt}
 use Rattle.desk_definitions.specs.Ends.{header_in, IsReadSo}
 use Rattle.desk_definitions.specs.Reads.{FeedRead, AreBegun, AreFirstTwins, AreOfDifferentBooks, AreRead, AreReadSo, AreSeenAs, rule_at}
-use Rattle.desk_definitions.specs.History.{IsCutBody, IsGivenBack, Judged, JudgesSo, NoneIsDue, bodies_of}
+use Rattle.desk_definitions.specs.History.{IsCutBody, bodies_of, findings_with}
+use Rattle.desk_definitions.specs.Judged.{IsAllJudged, IsJudgedInPart}
 
 -- what a run hands out beside its status
 pub record Outcome (S : Type 0) : Type 0 where
@@ -99,9 +100,7 @@ module _ {S : Type 0} (left : S → Option (List ℕ)) (faults : S → ℕ) (tol
     pub reads : List FeedRead
     pub rules : List (Option VoidRule)
     pub bodies : HaveBodies out.ends reads rules
-    pub judged : List Judged
-    pub judges : JudgesSo budget rules (names + 1) (bodies_of 0 out.ends reads) judged out.history
-    pub all_judged : NoneIsDue out.history
+    pub judged : IsAllJudged rules (findings_with budget) (names + 1) (bodies_of 0 out.ends reads) out.history
     pub seen : List SeenFeed
     pub seen_are : AreSeenAs out.ends reads seen
     pub status_is : due.status ≡ status_of out.ends
@@ -123,12 +122,7 @@ module _ {S : Type 0} (left : S → Option (List ℕ)) (faults : S → ℕ) (tol
     pub reads : List FeedRead
     pub rules : List (Option VoidRule)
     pub bodies : HaveBodies out.ends reads rules
-    pub judged : List Judged
-    pub so_far : List Entry
-    pub judges : JudgesSo budget rules (names + 1) (bodies_of 0 out.ends reads) judged so_far
-    pub part : List Entry
-    pub history_is : out.history ≡ so_far ++ part
-    pub part_is : (part ≡ []) ⊎ IsGivenBack (names + 1) so_far part
+    pub judged : IsJudgedInPart rules (findings_with budget) (names + 1) (bodies_of 0 out.ends reads) out.history
 
 -- what is due: the line of a feed that cannot be opened, or all were opened; then the line of a feed without a header, or all headers
 -- were read; then the line of two feeds of one book, or all bodies were read, and the report

@@ -7,3 +7,4 @@ pub mod Reads
 pub mod History
 pub mod Course
 pub mod Causes
+pub mod Judged

@@ -1,3 +1,5 @@
 pub mod Elements
 pub mod Stops
 pub mod Statuses
+pub mod Wholes
+pub mod Complete

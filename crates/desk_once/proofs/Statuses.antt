@@ -6,7 +6,7 @@ use Rattle.board_definitions.specs.declared.event.FeedStop.{FeedStop}
 use Rattle.board_definitions.specs.declared.event.FeedStop.TheVariants as stops
 use Rattle.desk_definitions.specs.declared.feed_end.FeedEnd.{FeedEnd}
 use Rattle.desk_definitions.specs.Seen.{OpenerSeen, SinkSeen, Due}
-use Rattle.desk_definitions.specs.Opening.{FailsAt, LacksSource, told_bytes}
+use Rattle.desk_definitions.specs.Opening.{FailsAt, LacksSource, OpensAll, told_bytes}
 use Rattle.outside_definitions.specs.Opener.{times}
 use Rattle.desk_opening.proofs.Opened.{times_before}
 use Rattle.desk_definitions.specs.Reads.{FeedRead, AreBegun, AreFirstTwins, AreOfDifferentBooks, book_of}
@@ -292,20 +292,30 @@ module _ {S : Type 0} (left : S → Option (List ℕ)) (faults : S → ℕ) wher
             by (inr (inl is)) = absurd (omega (arith, e, is.0))
             by (inr (inr is)) = absurd (omega (arith, e, is.0))
 
-    pub lacking_due : Course → (k : ℕ) → k < length names → LacksSource opener.told names k → IsOrYields 3 status
-    lacking_due course k lt lacks = due_unless 3 go course
+    -- no source lacks where all were opened
+    has_all : (k : ℕ) → k < length names → LacksSource opener.told names k → OpensAll names opener → ⊥
+    has_all k lt lacks all = omega (arith, too_few (opener.told name) lacks.are_told (all.enough name), lacks.too_few, times_before names k lt)
       where
         name : List ℕ
         name = slice_index_or names k []
 
-        too_few : (o : Option (List (List ℕ))) → o ≡ Some lacks.sources → IfSome o (λ sources. times name names ≤ length sources) → times name names ≤ length lacks.sources
+        too_few : (o : Option (List (List ℕ))) → o ≡ Some lacks.sources → IfSome o (λ sources. times (slice_index_or names k []) names ≤ length sources)
+            → times (slice_index_or names k []) names ≤ length lacks.sources
         too_few None e h = absurd (cc)
         too_few (Some sources) e h =
             (let same : sources ≡ lacks.sources = cc in
-            let P : List (List ℕ) → Type 0 = λ xs. times name names ≤ length xs in
+            let P : List (List ℕ) → Type 0 = λ xs. times (slice_index_or names k []) names ≤ length xs in
             subst P same h)
 
+    pub lacking_due : Course → (k : ℕ) → k < length names → LacksSource opener.told names k → IsOrYields 3 status
+    lacking_due course k lt lacks = due_unless 3 go course
+      where
         go : (due : Due) → Dues due → due.status ≡ 3
         go due (inl unopened) = ap (λ (d : Due). d.status) unopened.due_is
-        go due (inr (all, rest)) =
-            absurd (omega (arith, too_few (opener.told name) lacks.are_told (all.enough name), lacks.too_few, times_before names k lt))
+        go due (inr (all, rest)) = absurd (has_all k lt lacks all)
+
+    pub none_begun : Course → (k : ℕ) → k < length names → LacksSource opener.told names k → out.ends ≡ []
+    none_begun (inr (seven, nothing, inl (none, place, stopped))) k lt lacks = none.no_feed
+    none_begun (inr (seven, nothing, inr (all, rest))) k lt lacks = absurd (has_all k lt lacks all)
+    none_begun (inl (due, inl unopened, written)) k lt lacks = unopened.unbegun.no_feed
+    none_begun (inl (due, inr (all, rest), written)) k lt lacks = absurd (has_all k lt lacks all)

@@ -1,5 +1,5 @@
 //! The command `once`.
-ghost use Rattle.std.specs.Prelude.{ℕ, ◌≡◌, ◌≢◌, ◌<◌, ◌≤◌, ◌⊎◌, length, map, string_bytes};
+ghost use Rattle.std.specs.Prelude.{ℕ, ◌≡◌, ◌≢◌, ◌<◌, ◌≤◌, ◌⊎◌, [], length, map, string_bytes};
 ghost use Rattle.scan_types.specs.declared.limits.TheConstants.{MOST_FEEDS, MOST_PIVOTS};
 ghost use Rattle.board_definitions.specs.declared.event.FeedStop.TheVariants as stops;
 ghost use Rattle.desk_io.specs.Faults.{Rose};
@@ -41,10 +41,17 @@ pub fn once<O: Opener, K: Sink>(
         (length names.now) pivots (record { ends = result.feeds.items; history = result.history.items })
         (sink_seen K.written K.faults sink.old sink.new) }
 
+    // The converse: good feeds of different books give status 0, unless an opening, a read or a write fails or no memory is left.
+    ensures complete { AreGoodFeeds (told_bytes (O.told opener.old) (map string_bytes names.now)) (length names.now) →
+        HasNoFault O.S.faults (opener_seen O.told O.opens_told O.faults opener.old opener.new) result.feeds.items
+        (sink_seen K.written K.faults sink.old sink.new) → (result.status ≡ DONE) ⊎ (result.status ≡ WANT_OF_MEMORY) }
+
     // Status 3 comes only if an opening failed. It is due, and no feed is begun, if the opener has no source for one of the names.
     ensures not_opened { result.status ≡ NOT_OPENED →
         (k : ℕ) × FailsAt (map string_bytes names.now) (opener_seen O.told O.opens_told O.faults opener.old opener.new) k }
     ensures not_opened_due { (k : ℕ) → k < length names.now → LacksSource (O.told opener.old) (map string_bytes names.now) k → IsOrYields NOT_OPENED result.status }
+
+    ensures none_begun { (k : ℕ) → k < length names.now → LacksSource (O.told opener.old) (map string_bytes names.now) k → result.feeds.items ≡ [] }
 
     // Status 4 comes only if a read of a feed failed; where bodies were read, it is due if one of them stopped so.
     ensures not_read { result.status ≡ NOT_READ → HasFailedRead O.S.faults result.feeds.items }

@@ -11,17 +11,19 @@ use Rattle.scan_types.specs.declared.limits.TheConstants.{MOST_LINES, MOST_LINE_
 use Rattle.feed_text.specs.declared.accepted.Accepted.{Accepted}
 use Rattle.feed_text.specs.declared.cause.Fault.{Fault}
 use Rattle.feed_text.specs.declared.header.Header.{Header}
+use Rattle.feed_text.specs.declared.request.Request.{Request}
 use Rattle.feed_text.specs.declared.request.LineForm.{LineForm}
 use Rattle.feed_text.specs.declared.request.LineForm.TheVariants as form
 use Rattle.feed_text.specs.declared.step.Step.{Step}
-use Rattle.feed_text.specs.Lines.{answered_lines, counted_lines}
+use Rattle.feed_text.specs.declared.step.Step.TheVariants as step
+use Rattle.feed_text.specs.Lines.{answered_lines, counted_lines, is_cut}
 use Rattle.feed_text.specs.Forms.{header_of, header_form, line_form, read_ascii, too_long, without_return}
 use Rattle.feed_text.specs.Standing.{refused_for}
 use Rattle.feed_text.specs.Feed.{request_step, form_step, line_answer, accepted_in, ending}
 use Rattle.feed_text.specs.Answers.{header_step, next_answer, is_header, is_open, ends_feed}
-use Rattle.feed_text.proofs.Prefixes.{step_of_line, steps_end, bad_header_ends}
+use Rattle.feed_text.proofs.Prefixes.{step_of_line, steps_end, bad_header_ends, bad_header_stays, cut_stays}
 use Rattle.feed_reader.specs.Rows.{IsStanding}
-use Rattle.feed_reader.specs.Reader.{steps_so, IsAtLine, IsReadOut, IsNextLine, IsAfterLines, IsAnswer, IsReading, is_read_fault, is_of_line}
+use Rattle.feed_reader.specs.Reader.{steps_so, IsAtLine, IsReadOut, IsNextLine, IsAfterLines, IsAnswer, IsReading, IsNumbered, IsWhole, is_read_fault, is_of_line}
 
 -- an answer to a line
 header_accepts_nothing : (o : Result Header Fault) → accepted_in (header_step o ∷ []) ≡ []
@@ -181,3 +183,48 @@ long_is_shut line h = ap (λ t. ends_feed (header_step (cond t (Err too_long) (r
   where
     longer : (n : ℕ) → MOST_LINE_BYTES < n → ltb MOST_LINE_BYTES n ≡ true
     longer n h = grind (arith, nat_tests)
+
+-- the number of the line that an answer names
+request_numbered : (n : ℕ) (request : Request) (o : Option Cause) → IsNumbered n (request_step n request o)
+request_numbered n request None = refl
+request_numbered n request (Some cause) = refl
+
+form_numbered : (before : List Accepted) (n : ℕ) (f : LineForm) → IsNumbered n (form_step before n f)
+form_numbered before n form.Skipped = tt
+form_numbered before n (form.Wrong fault) = refl
+form_numbered before n (form.Asks request) = request_numbered n request (refused_for before request.match_name (selection_number request.selection) request.change)
+
+header_numbered : (o : Result Header Fault) → IsNumbered 1 (header_step o)
+header_numbered (Ok header) = tt
+header_numbered (Err fault) = refl
+
+answer_numbered_suc : (before : List Step) (line : List ℕ) → IsNumbered (suc (length before)) (next_answer before line)
+answer_numbered_suc [] line = header_numbered (header_of line)
+answer_numbered_suc (s ∷ before) line = form_numbered (accepted_in (s ∷ before)) (suc (length (s ∷ before))) (line_form line)
+
+pub answer_numbered : (before : List Step) (line : List ℕ) (lines : ℕ) (s : Step) → length before ≡ lines → s ≡ next_answer before line → IsNumbered (lines + 1) s
+answer_numbered before line lines s long is =
+    subst (λ (t : Step). IsNumbered (lines + 1) t) (sym is)
+    (subst (λ (n : ℕ). IsNumbered n (next_answer before line)) {x = suc (length before)} {y = lines + 1} (omega (arith, long)) (answer_numbered_suc before line))
+
+-- an answer to a line that ends the feed: line 1 is no header, and no further byte changes that
+pub shut_is_whole : (bytes : List ℕ) (lines : ℕ) (line : List ℕ) (s : Step) → IsNextLine false bytes lines line → is_open (take lines (steps_so false bytes)) ≡ true →
+    s ≡ next_answer (take lines (steps_so false bytes)) line → ends_feed s ≡ true → IsWhole bytes
+shut_is_whole bytes lines line s next opened is ends = λ more failed.
+    let shut = shut_after (take lines (steps_so false bytes)) line (sym (ap (λ (t : Step). ends_feed t) is) ∙ ends) in
+    let item = next_item false bytes lines line next opened in
+    let none : lines ≡ 0 = sym (given_length false bytes lines (next_answer (take lines (steps_so false bytes)) line) item) ∙ shut.0 in
+    let one : take 1 (steps_so false bytes) ≡ take lines (steps_so false bytes) ++ next_answer (take lines (steps_so false bytes)) line ∷ [] =
+    ap (λ n. take n (steps_so false bytes)) {x = 1} {y = lines + 1} (omega (arith, none)) ∙ take_more (steps_so false bytes) lines (next_answer (take lines (steps_so false bytes)) line) item in
+    bad_header_stays bytes more true failed (omega (arith, slice_get_within (answered_lines true bytes) lines line next)) (ap (λ (l : List Step). is_open l) one ∙ shut.1)
+
+-- so it is after a limit of size
+pub cut_is_whole : (bytes : List ℕ) (lines : ℕ) → IsAfterLines false bytes lines step.Cut → IsWhole bytes
+cut_is_whole bytes lines after = λ more failed. cut_stays bytes more true failed (by_cut (is_cut bytes) after.ends)
+  where
+    by_cut : (b : Bool) → cond b step.Cut step.ReadFault ≡ step.Cut → b ≡ true
+    by_cut true h = refl
+    by_cut false h = absurd (cc)
+
+pub no_end : (s : Step) → is_of_line s ≡ true → s ≡ step.End → ⊥
+no_end s h e = false≢true (sym (ap (λ (t : Step). is_of_line t) e) ∙ h)

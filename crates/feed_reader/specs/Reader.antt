@@ -8,6 +8,7 @@ use Rattle.feed_text.specs.Feed.{steps, accepted_in, ending}
 use Rattle.feed_text.specs.Answers.{is_open, ends_feed}
 use Rattle.feed_reader.specs.declared.next_line.NextLine.{NextLine}
 use Rattle.feed_reader.specs.declared.next_line.NextLine.TheVariants as next
+use Rattle.feed_fields.specs.Tests.{HasLimitInRange}
 use Rattle.feed_reader.specs.Rows.{IsStanding}
 use Rattle.feed_reader.specs.Taking.{looked_at}
 
@@ -125,3 +126,19 @@ pub record IsAnswer (drained : Bool) (bytes : List ℕ) (lines : ℕ) (answer : 
   pub last : ends_feed answer ≡ true → steps_so drained bytes ≡ take lines (steps_so drained bytes) ++ answer ∷ []
   pub opened : ends_feed answer ≡ false → is_open (take (lines + 1) (steps_so drained bytes)) ≡ true
   pub taken : take (lines + 1) (steps_so drained bytes) ≡ take lines (steps_so drained bytes) ++ answer ∷ []
+
+-- a step that names a line names the one of this number
+abbrev pub IsNumbered : ℕ → Step → Type 0
+IsNumbered number (step.Line line) = line.line ≡ number
+IsNumbered number (step.Refused refusal) = refusal.place.line ≡ number
+IsNumbered number (step.BadHeader refusal) = refusal.place.line ≡ number
+IsNumbered number _ = Unit {0}
+
+-- the limit of an accepted quote is in its range
+abbrev pub IsInRange : Step → Type 0
+IsInRange (step.Line line) = HasLimitInRange line.change
+IsInRange _ = Unit {0}
+
+-- further bytes change no step
+abbrev pub IsWhole : List ℕ → Type 0
+IsWhole bytes = (more : List ℕ) (failed : Bool) → steps failed (bytes ++ more) ≡ steps true bytes

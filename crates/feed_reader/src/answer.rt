@@ -4,10 +4,11 @@ ghost use Rattle.std.specs.Str.{bytes_eq};
 ghost use Rattle.indexmap.specs.IndexMap.{get as row_at, index_map_len, spare};
 ghost use Rattle.scan_types.specs.declared.limits.TheConstants.{MOST_LINES};
 ghost use Rattle.feed_text.specs.declared.step.Step.{Step as AnyStep};
+ghost use Rattle.feed_text.specs.declared.step.Step.TheVariants as step;
 ghost use Rattle.feed_text.specs.Feed.{accepted_in};
 ghost use Rattle.feed_text.specs.Answers.{is_open, next_answer, ends_feed};
 ghost use Rattle.feed_reader.specs.Rows.{IsStanding};
-ghost use Rattle.feed_reader.specs.Reader.{StandsSo, IsEndedNext, IsLastNext, IsAnswer, IsReading, steps_so, drained_by, failed_by, is_read_fault};
+ghost use Rattle.feed_reader.specs.Reader.{StandsSo, IsEndedNext, IsLastNext, IsAnswer, IsReading, steps_so, drained_by, failed_by, is_read_fault, is_of_line, IsNumbered, IsInRange, IsWhole};
 
 use crate::line_step::{first_step, line_step};
 use crate::next_line::NextLine;
@@ -19,6 +20,7 @@ use feed_text::Step;
 fn line_answer(line: &[u8], lines: u32, standing: &mut Standing) -> Step
     requires room { 0 < spare standing.old.rows }
     requires few { lines < MOST_LINES }
+    ensures in_range { IsInRange result }
     ensures step { (before : List AnyStep) → length before ≡ lines → IsStanding (row_at bytes_eq standing.old.rows) (index_map_len standing.old.rows) (accepted_in before) →
         result ≡ next_answer before line.now }
     ensures standing { (before : List AnyStep) → length before ≡ lines → IsStanding (row_at bytes_eq standing.old.rows) (index_map_len standing.old.rows) (accepted_in before) →
@@ -42,6 +44,10 @@ fn ended_answer(end: usize, lines: u32, taken: &mut Taken, standing: &mut Standi
         IsReading taken.old.bytes.items taken.new.start (lines + 1) false (row_at bytes_eq standing.new.rows) (index_map_len standing.new.rows) }
     ensures bytes { taken.new.bytes.items ≡ taken.old.bytes.items }
     ensures no_fault { is_read_fault result ≡ false }
+    ensures of_line { is_of_line result ≡ true }
+    ensures numbered { IsNumbered (lines + 1) result }
+    ensures in_range { IsInRange result }
+    ensures whole { ends_feed result ≡ true → IsWhole taken.old.bytes.items }
     ensures few { index_map_len standing.new.rows ≤ 256 }
 {
     let line = taken.line(end);
@@ -60,6 +66,9 @@ fn last_answer(lines: u32, taken: &Taken, standing: &mut Standing) -> Step
     ensures reading { ends_feed result ≡ false →
         IsReading taken.now.bytes.items taken.now.start (lines + 1) true (row_at bytes_eq standing.new.rows) (index_map_len standing.new.rows) }
     ensures no_fault { is_read_fault result ≡ false }
+    ensures of_line { is_of_line result ≡ true }
+    ensures numbered { IsNumbered (lines + 1) result }
+    ensures in_range { IsInRange result }
     ensures few { index_map_len standing.new.rows ≤ 256 }
 {
     let line = taken.rest();
@@ -77,6 +86,10 @@ pub fn answer(found: NextLine, lines: u32, taken: &mut Taken, standing: &mut Sta
         IsReading taken.old.bytes.items taken.new.start (lines + 1) (drained_by found) (row_at bytes_eq standing.new.rows) (index_map_len standing.new.rows) }
     ensures bytes { taken.new.bytes.items ≡ taken.old.bytes.items }
     ensures fault { is_read_fault result ≡ failed_by found }
+    ensures end { result ≡ step.End → drained_by found ≡ true }
+    ensures numbered { IsNumbered (lines + 1) result }
+    ensures in_range { IsInRange result }
+    ensures whole { ends_feed result ≡ true → is_read_fault result ≡ false → drained_by found ≡ false → IsWhole taken.old.bytes.items }
     ensures few { index_map_len standing.new.rows ≤ 256 }
 {
     match found {

@@ -8,7 +8,9 @@ ghost use Rattle.feed_text.specs.Forms.{header_of};
 ghost use Rattle.feed_text.specs.Standing.{is_quote};
 ghost use Rattle.feed_text.specs.Feed.{refusal, form_step, line_answer, accepted_in};
 ghost use Rattle.feed_text.specs.Answers.{header_step};
+ghost use Rattle.feed_fields.specs.Tests.{HasLimitInRange};
 ghost use Rattle.feed_reader.specs.Rows.{IsStanding};
+ghost use Rattle.feed_reader.specs.Reader.{IsInRange};
 
 use crate::standing::Standing;
 use feed_fields::{read_header, read_line};
@@ -30,7 +32,8 @@ fn refusal(number: u32, fault: Fault) -> Refusal
 
 /// The step of line 1.
 pub fn first_step(line: &[u8]) -> Step
-    ensures { result ≡ header_step (header_of line.now) }
+    ensures step { result ≡ header_step (header_of line.now) }
+    ensures in_range { IsInRange result }
 {
     match read_header(line) {
         Ok(header) => Step::Header(header),
@@ -48,6 +51,8 @@ fn quotes(change: Change) -> bool
 /// The step of a well-formed line of this number, which changes what stands if it is accepted.
 fn request_step(request: Request, number: u32, standing: &mut Standing) -> Step
     requires room { 0 < spare standing.old.rows }
+    requires range { HasLimitInRange request.change }
+    ensures in_range { IsInRange result }
     ensures step { (before : List AcceptedLine) → IsStanding (row_at bytes_eq standing.old.rows) (index_map_len standing.old.rows) before →
         result ≡ form_step before number (Asks request) }
     ensures standing { (before : List AcceptedLine) → IsStanding (row_at bytes_eq standing.old.rows) (index_map_len standing.old.rows) before →
@@ -78,6 +83,7 @@ fn request_step(request: Request, number: u32, standing: &mut Standing) -> Step
 /// The step of the line of this number, which is not line 1, and what stands after it.
 pub fn line_step(line: &[u8], number: u32, standing: &mut Standing) -> Step
     requires room { 0 < spare standing.old.rows }
+    ensures in_range { IsInRange result }
     ensures step { (before : List AcceptedLine) → IsStanding (row_at bytes_eq standing.old.rows) (index_map_len standing.old.rows) before →
         result ≡ line_answer before number line.now }
     ensures standing { (before : List AcceptedLine) → IsStanding (row_at bytes_eq standing.old.rows) (index_map_len standing.old.rows) before →

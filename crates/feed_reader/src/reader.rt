@@ -3,12 +3,12 @@ ghost use Rattle.std.specs.Prelude.{◌≡◌, ◌+◌, ◌<◌, ◌≤◌, [], 
 ghost use Rattle.std.specs.Io.KnownBytes.{IsAtEnd};
 ghost use Rattle.scan_types.specs.declared.limits.TheConstants.{MOST_LINES};
 ghost use Rattle.desk_io.specs.Faults.{Rose};
-ghost use Rattle.feed_text.specs.declared.step.Step.TheVariants as step;
+ghost use Rattle.feed_text.specs.declared.step.Step.TheVariants as any;
 ghost use Rattle.feed_text.specs.Lines.{ended_lines};
 ghost use Rattle.feed_text.specs.Feed.{accepted_in};
 ghost use Rattle.feed_text.specs.Answers.{ends_feed};
 ghost use Rattle.feed_reader.specs.Taking.{GoesOn};
-ghost use Rattle.feed_reader.specs.Reader.{IsAtLine, IsReadOut, StandsSo, its_steps, answered, is_read_fault, is_of_line, drained_by, failed_by};
+ghost use Rattle.feed_reader.specs.Reader.{IsAtLine, IsReadOut, StandsSo, its_steps, answered, is_read_fault, is_of_line, drained_by, failed_by, IsNumbered, IsInRange, IsWhole};
 
 use crate::answer::answer;
 use crate::next_line::NextLine;
@@ -155,6 +155,12 @@ impl<S: Source + Drop> FeedReader<S> {
         ensures goes_on { OnOk result (GoesOn (S.left self.old.source) (S.left self.new.source) self.old.taken self.new.taken
             (S.faults self.old.source) (S.faults self.new.source) (S.later self.old.source self.new.source) (S.never_fails self.old.source → S.never_fails self.new.source)) }
         ensures drained { OnOk result (self.old.drained ≡ false → self.new.drained ≡ true → IsAtEnd (S.left self.new.source)) }
+        ensures drained_stays { OnOk result (self.old.drained ≡ true →
+            (self.new.drained ≡ true) × (self.new.taken ≡ self.old.taken) × (self.new.source ≡ self.old.source)) }
+        ensures end { IfOk result (λ step. step ≡ any.End → self.new.drained ≡ true) }
+        ensures whole { IfOk result (λ step. ends_feed step ≡ true → is_read_fault step ≡ false → self.new.drained ≡ false → IsWhole self.new.taken) }
+        ensures numbered { IfOk result (IsNumbered (self.old.answers + 1)) }
+        ensures in_range { IfOk result IsInRange }
         ensures no_read { OnOk result (self.old.answers < length (ended_lines self.old.taken) → (self.new.taken ≡ self.old.taken) × (self.new.source ≡ self.old.source)) }
         ensures fault { IfOk result (λ step. is_read_fault step ≡ true → Rose (S.faults self.old.source) (S.faults self.new.source)) }
         ensures promised { S.never_fails self.old.source → IfOk result (λ step. is_read_fault step ≡ false) }

@@ -12,5 +12,6 @@ mod match_part;
 mod report;
 
 pub use feed_part::{FeedPart, FeedParts};
+pub use feed_text::Refusals;
 pub use match_part::{MatchPart, MatchParts};
 pub use report::Report;

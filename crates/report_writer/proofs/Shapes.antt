@@ -1,5 +1,5 @@
 -- The parts of a line, one after another, are the line.
-use Rattle.std.proofs.Common.{ℕ, ◌≡◌, ◌<◌, ◌+◌, length, get_or, take, drop, List, [], ◌∷◌, ◌++◌, sym, ap, refl, ◌∙◌, append_assoc, lit<}
+use Rattle.std.proofs.Common.{ℕ, ◌≡◌, ◌<◌, ◌+◌, length, get_or, take, drop, List, [], ◌∷◌, ◌++◌, sym, ap, ◌∙◌, append_assoc, lit<}
 use Rattle.std.specs.Prelude.{codes, decimal}
 use Rattle.std.specs.List.{flat_map}
 use Rattle.std.proofs.lemmas.List.{append-nil}

@@ -24,6 +24,7 @@ pub fn write_report<K: Sink>(report: &Report, sink: &mut K) -> Result<(), WriteF
     ensures written { OnOk result (Appends (K.written sink.old) (K.written sink.new) (report_text report.now.pivots report.now.feeds report.now.matches)) }
     ensures cut_short { OnErr result (AppendsPrefix (K.written sink.old) (K.written sink.new) (report_text report.now.pivots report.now.feeds report.now.matches)) }
     ensures failed { OnErr result (Rose (K.faults sink.old) (K.faults sink.new)) }
+    ensures no_fault { OnOk result (K.faults sink.new ≡ K.faults sink.old) }
     ensures faults_kept { K.faults sink.old ≤ K.faults sink.new }
 {
     put_report(report, sink)

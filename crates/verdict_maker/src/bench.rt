@@ -4,6 +4,7 @@ ghost use Rattle.finding_definitions.specs.Findings.{IsVerdict, IsRight, IsRight
 ghost use Rattle.judging_definitions.specs.ExactFinding.{IsFindingOf};
 
 use crate::judging::exact_finding;
+use crate::law::FindingLaw;
 use finding_definitions::Finding;
 use fraction_tableau::Tableau;
 use scan_types::{MOST_PIVOTS, Sheet, WantOfMemory};
@@ -14,7 +15,7 @@ use std::marker::Model;
 #[derive(Debug, Drop)]
 pub struct Bench {
     tableau: Tableau,
-    budget: u32,
+    law: FindingLaw,
 }
 
 impl Model for Bench {
@@ -22,7 +23,7 @@ impl Model for Bench {
 
     ghost Value = { ℕ };
 
-    ghost view = { λ b. b.budget };
+    ghost view = { λ b. b.law.budget };
 }
 
 impl Bench {
@@ -34,7 +35,7 @@ impl Bench {
     {
         Bench {
             tableau: Tableau::empty(alloc),
-            budget,
+            law: FindingLaw { budget },
         }
     }
 
@@ -42,7 +43,14 @@ impl Bench {
     pub fn budget(&self) -> u32
         ensures { result ≡ self.now }
     {
-        self.budget
+        self.law.budget
+    }
+
+    /// The law of its findings: those with this budget.
+    pub fn finding_law(&self) -> &FindingLaw
+        ensures { result.now.budget ≡ self.now }
+    {
+        &self.law
     }
 }
 
@@ -56,5 +64,5 @@ pub fn judge(alloc: Global, bench: &mut Bench, sheet: &Sheet) -> Result<Finding,
     ensures passes_check { IfOk result (λ finding. IsVerdict finding → IsRightVerdict sheet.now finding) }
     ensures budget_stays { bench.new ≡ bench.old }
 {
-    exact_finding(alloc, &mut bench.tableau, bench.budget, sheet)
+    exact_finding(alloc, &mut bench.tableau, bench.law.budget, sheet)
 }

@@ -2,7 +2,8 @@ use Rattle.std.proofs.Common.{◌⊎◌, ℕ, Global, length, map, string_bytes,
 use Rattle.std.proofs.lemmas.List.{length-map}
 use Rattle.board_definitions.specs.declared.event.FeedStop.TheVariants as stops
 use Rattle.desk_definitions.specs.Causes.{EndsWithout, HaveRun, HaveTwins, NoneStops, SomeStop}
-use Rattle.desk_once.proofs.Statuses.{cut_due, lacking_due, no_header, no_header_due, one_book_due, opening_failed, read_failed, read_failed_due, reported_of, was_cut}
+use Rattle.desk_once.proofs.Complete.{complete_of}
+use Rattle.desk_once.proofs.Statuses.{cut_due, lacking_due, none_begun, no_header, no_header_due, one_book_due, opening_failed, read_failed, read_failed_due, reported_of, was_cut}
 use Rattle.desk_once.proofs.command.once.Goals as goal
 
 pub returns-clause-not_read : goal.returns-clause-not_read
@@ -44,3 +45,10 @@ pub returns-clause-one_book_due : goal.returns-clause-one_book_due
 returns-clause-one_book_due g c = λ twins.
     let P : ℕ → Type 0 = λ n. HaveTwins n c.run.result.feeds.items in
     one_book_due g.O.S.Source.left g.O.S.Source.faults (map string_bytes c.args.names.now) (omega (arith, length-map c.args.names.now (string_bytes {Z = Global}), c.requires.some)) c.args.pivots _ _ c.run.result.status _ c.run.ensures.course (subst P (sym (length-map c.args.names.now (string_bytes {Z = Global}))) twins)
+
+pub returns-clause-complete : goal.returns-clause-complete
+returns-clause-complete g c = λ feeds fine.
+    complete_of g.O.S.Source.left g.O.S.Source.faults (map string_bytes c.args.names.now) c.args.pivots _ _ c.run.result.status _ (length c.args.names.now) (length-map c.args.names.now (string_bytes {Z = Global})) feeds fine c.run.ensures.course
+
+pub returns-clause-none_begun : goal.returns-clause-none_begun
+returns-clause-none_begun g c = λ k lt lacks. none_begun g.O.S.Source.left g.O.S.Source.faults (map string_bytes c.args.names.now) (omega (arith, length-map c.args.names.now (string_bytes {Z = Global}), c.requires.some)) c.args.pivots _ _ c.run.result.status _ c.run.ensures.course k (omega (arith, lt, length-map c.args.names.now (string_bytes {Z = Global}))) lacks

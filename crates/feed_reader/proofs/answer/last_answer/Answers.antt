@@ -4,8 +4,8 @@ use Rattle.std.proofs.lemmas.Bool.{false≢true}
 use Rattle.indexmap.specs.IndexMap.{get as row_at, index_map_len}
 use Rattle.feed_text.specs.declared.step.Step.{Step}
 use Rattle.feed_text.specs.Answers.{next_answer}
-use Rattle.feed_reader.specs.Reader.{steps_so, is_read_fault}
-use Rattle.feed_reader.proofs.Answering.{line_answers, line_length, low_line, reading_on, answer_is_of_line}
+use Rattle.feed_reader.specs.Reader.{steps_so, is_read_fault, is_of_line}
+use Rattle.feed_reader.proofs.Answering.{line_answers, line_length, low_line, reading_on, answer_is_of_line, answer_numbered}
 use Rattle.feed_reader.proofs.answer.last_answer.Goals as goal
 
 pub line_answer-requires-clause-few : goal.line_answer-requires-clause-few
@@ -50,3 +50,23 @@ returns-clause-few c =
     let before = take c.args.lines (steps_so true bytes) in
     let long = line_length true bytes c.args.lines (drop c.args.taken.now.start c.args.taken.now.bytes.items) c.requires.stands.line c.requires.opened in
     (c.line_answer.ensures.standing before long c.requires.standing).few
+
+pub returns-clause-of_line : goal.returns-clause-of_line
+returns-clause-of_line c =
+    let bytes = c.args.taken.now.bytes.items in
+    let lines = c.args.lines in
+    let line = drop c.args.taken.now.start c.args.taken.now.bytes.items in
+    let before = take lines (steps_so true bytes) in
+    let long = line_length true bytes lines line c.requires.stands.line c.requires.opened in
+    let is = c.line_answer.ensures.step before long c.requires.standing ∙ ap (λ (l : List ℕ). next_answer before l) c.rest-line.ensures in
+    ap (λ (s : Step). is_of_line s) is ∙ (answer_is_of_line before line).0
+
+pub returns-clause-numbered : goal.returns-clause-numbered
+returns-clause-numbered c =
+    let bytes = c.args.taken.now.bytes.items in
+    let lines = c.args.lines in
+    let line = drop c.args.taken.now.start c.args.taken.now.bytes.items in
+    let before = take lines (steps_so true bytes) in
+    let long = line_length true bytes lines line c.requires.stands.line c.requires.opened in
+    let is = c.line_answer.ensures.step before long c.requires.standing ∙ ap (λ (l : List ℕ). next_answer before l) c.rest-line.ensures in
+    answer_numbered before line lines c.line_answer.result long is

@@ -10,12 +10,12 @@ use Rattle.feed_reader.proofs.Answering.{answer_first, answer_other, accepted_fi
 use Rattle.feed_reader.proofs.answer.line_answer.Goals as goal
 
 pub returns-then-lines-eq0-clause-step : goal.returns-then-lines-eq0-clause-step
-returns-then-lines-eq0-clause-step c = λ before count is. c.first_step.ensures ∙ answer_first before c.args.line.now (omega (arith, count))
+returns-then-lines-eq0-clause-step c = λ before count is. c.first_step.ensures.step ∙ answer_first before c.args.line.now (omega (arith, count))
 
 pub returns-then-lines-eq0-clause-standing : goal.returns-then-lines-eq0-clause-standing
 returns-then-lines-eq0-clause-standing c = λ before count is.
     subst (λ (l : List Accepted). IsStanding (row_at bytes_eq c.args.standing.now.rows) (index_map_len c.args.standing.now.rows) l)
-    (sym (ap (λ (s : Step). accepted_in (before ++ s ∷ [])) c.first_step.ensures ∙ accepted_first_answer before c.args.line.now (omega (arith, count)))) is
+    (sym (ap (λ (s : Step). accepted_in (before ++ s ∷ [])) c.first_step.ensures.step ∙ accepted_first_answer before c.args.line.now (omega (arith, count)))) is
 
 pub returns-else-lines-eq0-clause-step : goal.returns-else-lines-eq0-clause-step
 returns-else-lines-eq0-clause-step c = λ before count is.

@@ -1,4 +1,4 @@
-use Rattle.std.proofs.Common.{ℕ, List, [], ◌∷◌, length, ◌∙◌}
+use Rattle.std.proofs.Common.{[], ◌∷◌, length, ◌∙◌}
 use Rattle.std.specs.Prelude.{codes, decimal}
 use Rattle.report_text.specs.Words.{rule_text, stop_text}
 use Rattle.report_writer.proofs.Shapes.{line_shape}

@@ -1,7 +1,6 @@
-use Rattle.std.proofs.Common.{ℕ, ◌≡◌, List, [], ◌∷◌, ◌++◌, append_assoc}
-use Rattle.std.specs.Prelude.{codes}
+use Rattle.std.proofs.Common.{[], ◌∷◌, ◌++◌}
 use Rattle.finding_definitions.specs.Text.{finding_text}
-use Rattle.certificates.proofs.Writes.{and_then, cut, same_text}
+use Rattle.certificates.proofs.Writes.{and_then, cut}
 use Rattle.report_writer.proofs.writing.put_found.Goals as goal
 
 pub returns-in_err-put : goal.returns-in_err-put

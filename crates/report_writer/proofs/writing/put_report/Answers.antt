@@ -1,7 +1,6 @@
-use Rattle.std.proofs.Common.{ℕ, ◌≡◌, List, ◌++◌, ap, sym, ◌∙◌, append_assoc}
+use Rattle.std.proofs.Common.{ℕ, List, ◌++◌, ap}
 use Rattle.std.specs.List.{flat_map, enumerate_from}
-use Rattle.std.proofs.lemmas.Fmt.{decimal_digit}
-use Rattle.report_text.specs.Report.{report_text, title_line, pivots_line, feed_lines, match_lines, end_line}
+use Rattle.report_text.specs.Report.{report_text, pivots_line, feed_lines, match_lines, end_line}
 use Rattle.certificates.proofs.Writes.{and_then, cut, same_text}
 use Rattle.report_writer.proofs.Shapes.{title_is}
 use Rattle.report_writer.proofs.writing.put_report.Goals as goal

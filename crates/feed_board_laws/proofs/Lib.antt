@@ -1,0 +1,4 @@
+mod Through
+pub mod Stands
+pub mod Takes
+pub mod Accepts
