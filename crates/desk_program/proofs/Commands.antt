@@ -1,7 +1,6 @@
 -- What is done for the command of some words, or if there is none.
-use Rattle.std.proofs.Common.{ℕ, zero, ◌≡◌, ◌≢◌, ◌≤◌, ◌⊎◌, List, [], ◌∷◌, ◌++◌, length, Option, Some, None, refl, sym, ap, ◌∙◌, subst, arith, inl, inr, drop, map}
+use Rattle.std.proofs.Common.{ℕ, ◌≡◌, ◌≤◌, List, length, Option, Some, None, refl, sym, ◌∙◌, subst, arith, inl, inr, drop}
 use Rattle.std.specs.Prelude.{IfSome, option_map}
-use Rattle.std.proofs.lemmas.List.{length-map}
 use Rattle.clap.specs.Words.{Text}
 use Rattle.outside_definitions.specs.Opener.{Told}
 use Rattle.desk_words.specs.declared.command.Command.{Command}
@@ -36,7 +35,7 @@ some_told (Some texts) = omega arith
 
 -- no memory was left before the first opening
 pub stops_at_once : (names : List Text) (told : Told) (opens_told : Type 0) (count : ℕ)
-    → StopsAt names (record { told = told; told_after = told; opens_told = opens_told; faults_before = count; faults_after = count; }) 0
+    → StopsAt names (record { told = told; told_after = told; opens_told = opens_told; faults_before = count; faults_after = count }) 0
 stops_at_once names told opens_told count =
     record {
       few = omega arith;
@@ -60,14 +59,14 @@ module _ {S : Type 0} (left : S → Option (List ℕ)) (faults : S → ℕ) wher
       → IsDeskCourse left faults words opener out status sink
   course_of_none words opener out status sink none kept fault unbegun written =
       let Q : Option Command → Type 0 = λ command. IsCourseOf left faults command opener out status sink in
-      let refused : IsRefused opener out status sink = record { told_kept = kept; no_fault = fault; unbegun = unbegun; answer = inl written; } in
+      let refused : IsRefused opener out status sink = record { told_kept = kept; no_fault = fault; unbegun = unbegun; answer = inl written } in
       subst Q (sym none) refused
 
   -- what is done for any command, or if there is none, if no memory was left before anything was begun
   pub course_without_memory : (command : Option Command) (told : Told) (opens_told : Type 0) (count : ℕ) (out : Outcome S) (status : ℕ) (sink : SinkSeen)
       → status ≡ WANT_OF_MEMORY → IsUnbegun out → WritesNothing sink
-      → IsCourseOf left faults command (record { told = told; told_after = told; opens_told = opens_told; faults_before = count; faults_after = count; }) out status sink
+      → IsCourseOf left faults command (record { told = told; told_after = told; opens_told = opens_told; faults_before = count; faults_after = count }) out status sink
   course_without_memory None told opens_told count out status sink seven unbegun nothing =
-      record { told_kept = refl; no_fault = refl; unbegun = unbegun; answer = inr (seven, nothing); }
+      record { told_kept = refl; no_fault = refl; unbegun = unbegun; answer = inr (seven, nothing) }
   course_without_memory (Some (Once pivots feeds)) told opens_told count out status sink seven unbegun nothing =
       inr (seven, nothing, inl (unbegun, 0, stops_at_once feeds told opens_told count))

@@ -1,5 +1,5 @@
 //! The top call.
-ghost use Rattle.std.specs.Prelude.{ℕ, ◌≡◌, ◌≢◌, ◌⊎◌, List, length, map, string_bytes};
+ghost use Rattle.std.specs.Prelude.{ℕ, ◌≡◌, ◌≢◌, ◌<◌, ◌⊎◌, List, [], length, map, string_bytes};
 ghost use Rattle.clap.specs.Words.{Text};
 ghost use Rattle.board_definitions.specs.declared.event.FeedStop.TheVariants as stops;
 ghost use Rattle.desk_io.specs.Faults.{Rose};
@@ -73,6 +73,13 @@ pub fn desk<O: Opener, K: Sink>(
         (record { ends = result.feeds.items; history = result.history.items })
         (sink_seen K.written K.faults sink.old sink.new) }
 
+    // The converse: well-formed words with good feeds of different books give status 0, unless an opening, a read or a write fails or
+    // no memory is left. An opener that promised to fail only under a name that has no source left opens all of them.
+    ensures complete { (pivots : ℕ) (feeds : List Text) → AreOnceWords (map string_bytes words.now) pivots feeds →
+        AreGoodFeeds (told_bytes (O.told opener.old) feeds) (length feeds) →
+        HasNoFault O.S.faults (opener_seen O.told O.opens_told O.faults opener.old opener.new) result.feeds.items
+        (sink_seen K.written K.faults sink.old sink.new) → (result.status ≡ DONE) ⊎ (result.status ≡ WANT_OF_MEMORY) }
+
     // Status 2 comes if the words are no command, and only then. Well-formed words are never refused. If the words are no command, the
     // opener is left as it was.
     ensures no_command { result.status ≡ NO_COMMAND → IsNoCommand (map string_bytes words.now) }
@@ -81,12 +88,14 @@ pub fn desk<O: Opener, K: Sink>(
         result.status ≢ NO_COMMAND }
     ensures untouched { IsNoCommand (map string_bytes words.now) → opener.new ≡ opener.old }
 
-    // Status 3 comes only if an opening failed. It is due if the opener has no source for one of the names.
+    // Status 3 comes only if an opening failed. It is due, and no feed is begun, if the opener has no source for one of the names.
     ensures not_opened { result.status ≡ NOT_OPENED → (pivots : ℕ) × (feeds : List Text)
         × AsksOnce (map string_bytes words.now) pivots feeds
         × (k : ℕ) × FailsAt feeds (opener_seen O.told O.opens_told O.faults opener.old opener.new) k }
     ensures not_opened_due { (pivots : ℕ) (feeds : List Text) (k : ℕ) → AsksOnce (map string_bytes words.now) pivots feeds →
-        LacksSource (O.told opener.old) feeds k → IsOrYields NOT_OPENED result.status }
+        k < length feeds → LacksSource (O.told opener.old) feeds k → IsOrYields NOT_OPENED result.status }
+    ensures none_begun { (pivots : ℕ) (feeds : List Text) (k : ℕ) → AsksOnce (map string_bytes words.now) pivots feeds →
+        k < length feeds → LacksSource (O.told opener.old) feeds k → result.feeds.items ≡ [] }
 
     // Status 4 comes only if a read of a feed failed; if the bodies were read, it is due if one of them stopped so.
     ensures not_read { result.status ≡ NOT_READ → HasFailedRead O.S.faults result.feeds.items }

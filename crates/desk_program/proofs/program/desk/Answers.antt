@@ -1,11 +1,9 @@
-use Rattle.std.proofs.Common.{rules, ◌≡◌, ℕ, List, Some, None, Err, length, map, string_bytes, Global, refl, sym, ap, subst, inl, inr, ◌∙◌}
+use Rattle.std.proofs.Common.{rules, ℕ, List, Some, Err, length, map, string_bytes, Global, refl, sym, ap, subst, arith, inl, inr, ◌∙◌}
 use Rattle.std.proofs.lemmas.List.{length-map}
 use Rattle.clap.specs.Words.{Text}
-use Rattle.board_definitions.specs.declared.event.FeedStop.TheVariants as stops
 use Rattle.desk_words.specs.Commands.{command_of}
-use Rattle.desk_definitions.specs.Seen.{opener_seen, sink_seen}
-use Rattle.desk_definitions.specs.Opening.{LacksSource}
-use Rattle.desk_definitions.specs.Causes.{HaveRun, HaveTwins}
+use Rattle.desk_definitions.specs.Opening.{LacksSource, told_bytes}
+use Rattle.desk_definitions.specs.Causes.{AreGoodFeeds, HaveRun, HaveTwins}
 use Rattle.desk_program.proofs.Commands.{course_of_once, course_of_none, course_without_memory, same_feeds, asks_nothing}
 use Rattle.desk_program.proofs.program.desk.Goals as goal
 
@@ -21,13 +19,34 @@ returns-in-Ok-clause-no_command_due g c = λ none. absurd (c.in-Ok.ensures.no_co
 pub returns-in-Ok-clause-untouched : goal.returns-in-Ok-clause-untouched
 returns-in-Ok-clause-untouched g c = λ none. absurd (c.in-Ok.ensures.no_command_due none)
 
+pub returns-in-Ok-clause-complete : goal.returns-in-Ok-clause-complete
+returns-in-Ok-clause-complete g c = λ pivots feeds spelled good.
+    let words = map (string_bytes {Z = Global}) c.args.words.now in
+    let told = g.O.Opener.told c.args.opener.now in
+    let asks = c.in-Ok.ensures.command ∙ ap Some (c.in-Ok.ensures.well_formed pivots feeds spelled) in
+    let same = same_feeds words pivots _ feeds _ asks (c.in-Ok.ensures.command ∙ ap Some c.once_words-pivots.ensures) ∙ sym c.names.ensures in
+    let names = map (string_bytes {Z = Global}) c.names.result.now in
+    let P : List Text → Type 0 = λ texts. AreGoodFeeds (told_bytes told texts) (length texts) in
+    let Q : ℕ → Type 0 = λ n. AreGoodFeeds (told_bytes told names) n in
+    c.once.ensures.complete (subst Q (length-map c.names.result.now (string_bytes {Z = Global})) (subst P same good))
+
 pub returns-in-Ok-clause-not_opened_due : goal.returns-in-Ok-clause-not_opened_due
-returns-in-Ok-clause-not_opened_due g c = λ pivots feeds k asks lacks.
+returns-in-Ok-clause-not_opened_due g c = λ pivots feeds k asks named lacks.
     let words = map (string_bytes {Z = Global}) c.args.words.now in
     let told = g.O.Opener.told c.args.opener.now in
     let P : List Text → Type 0 = λ names. LacksSource told names k in
-    c.once.ensures.not_opened_due k
-    (subst P (same_feeds words pivots _ feeds _ asks (c.in-Ok.ensures.command ∙ ap Some c.once_words-pivots.ensures) ∙ sym c.names.ensures) lacks)
+    let same = same_feeds words pivots _ feeds _ asks (c.in-Ok.ensures.command ∙ ap Some c.once_words-pivots.ensures) ∙ sym c.names.ensures in
+    let each = ap length same ∙ length-map c.names.result.now (string_bytes {Z = Global}) in
+    c.once.ensures.not_opened_due k (omega (arith, named, each)) (subst P same lacks)
+
+pub returns-in-Ok-clause-none_begun : goal.returns-in-Ok-clause-none_begun
+returns-in-Ok-clause-none_begun g c = λ pivots feeds k asks named lacks.
+    let words = map (string_bytes {Z = Global}) c.args.words.now in
+    let told = g.O.Opener.told c.args.opener.now in
+    let P : List Text → Type 0 = λ names. LacksSource told names k in
+    let same = same_feeds words pivots _ feeds _ asks (c.in-Ok.ensures.command ∙ ap Some c.once_words-pivots.ensures) ∙ sym c.names.ensures in
+    let each = ap length same ∙ length-map c.names.result.now (string_bytes {Z = Global}) in
+    c.once.ensures.none_begun k (omega (arith, named, each)) (subst P same lacks)
 
 pub returns-in-Ok-clause-not_read_due : goal.returns-in-Ok-clause-not_read_due
 returns-in-Ok-clause-not_read_due g c = λ pivots feeds asks ran.
@@ -65,13 +84,21 @@ returns-in-Err-NoCommand-clause-course g c =
     let none = (c.no_command_has_a_cause.ensures words).1 (c.in-Err-NoCommand.ensures.no_command (ap Err c.in-Err-NoCommand.field-0-is)) in
     course_of_none g.O.S.Source.left g.O.S.Source.faults words _ _ _ _ none refl refl c.unbegun.ensures.unbegun (rw c.unbegun.ensures.status c.refused.ensures.written)
 
+pub returns-in-Err-NoCommand-clause-complete : goal.returns-in-Err-NoCommand-clause-complete
+returns-in-Err-NoCommand-clause-complete g c = λ pivots feeds spelled good no_fault.
+    let wanted = c.in-Err-NoCommand.ensures.well_formed pivots feeds spelled in
+    absurd (cc (wanted, c.in-Err-NoCommand.field-0-is))
+
+pub returns-in-Err-NoCommand-clause-none_begun : goal.returns-in-Err-NoCommand-clause-none_begun
+returns-in-Err-NoCommand-clause-none_begun g c = λ pivots feeds k asks named lacks. c.unbegun.ensures.unbegun.no_feed
+
 pub returns-in-Err-NoCommand-clause-well_formed : goal.returns-in-Err-NoCommand-clause-well_formed
 returns-in-Err-NoCommand-clause-well_formed g c = λ pivots feeds spelled two.
     let wanted = c.in-Err-NoCommand.ensures.well_formed pivots feeds spelled in
     absurd (cc (wanted, c.in-Err-NoCommand.field-0-is))
 
 pub returns-in-Err-NoCommand-clause-not_opened_due : goal.returns-in-Err-NoCommand-clause-not_opened_due
-returns-in-Err-NoCommand-clause-not_opened_due g c = λ pivots feeds k asks lacks.
+returns-in-Err-NoCommand-clause-not_opened_due g c = λ pivots feeds k asks named lacks.
     let words = map (string_bytes {Z = Global}) c.args.words.now in
     let none = (c.no_command_has_a_cause.ensures words).1 (c.in-Err-NoCommand.ensures.no_command (ap Err c.in-Err-NoCommand.field-0-is)) in
     absurd (asks_nothing words pivots feeds none asks)
