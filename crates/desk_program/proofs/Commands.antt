@@ -19,6 +19,11 @@ same_feeds words pivots other feeds names asks found =
     let one : Some (Once pivots feeds) ≡ Some (Once other names) = sym asks ∙ found in
     cc
 
+pub same_pivots : (words : List Text) (pivots other : ℕ) (feeds names : List Text) → AsksOnce words pivots feeds → command_of words ≡ Some (Once other names) → pivots ≡ other
+same_pivots words pivots other feeds names asks found =
+    let one : Some (Once pivots feeds) ≡ Some (Once other names) = sym asks ∙ found in
+    cc
+
 -- words that are no command ask for none
 pub asks_nothing : (words : List Text) (pivots : ℕ) (feeds : List Text) → command_of words ≡ None → AsksOnce words pivots feeds → ⊥
 asks_nothing words pivots feeds none asks =

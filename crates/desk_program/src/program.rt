@@ -11,10 +11,12 @@ ghost use Rattle.desk_definitions.specs.Seen.{opener_seen, sink_seen, IsWritten}
 ghost use Rattle.desk_definitions.specs.Opening.{FailsAt, LacksSource, told_bytes};
 ghost use Rattle.desk_definitions.specs.Course.{IsUnbegun, WritesNothing};
 ghost use Rattle.desk_definitions.specs.Causes.{AreGoodFeeds, EndsWithout, HasFailedRead, HasNoFault, HaveRun, HaveTwins, IsOrYields, IsReported, NoneStops, SomeStop};
+ghost use Rattle.desk_laws.specs.Histories.{HasWholeHistory};
 ghost use Rattle.desk_program.specs.Desk.{AsksOnce, IsDeskCourse};
 
 use desk_definitions::DeskEnd;
 use desk_io::{Opener, Sink, Source};
+use desk_laws::{bodies_are_in_the_history, statuses_have_causes};
 use desk_once::once;
 use desk_texts::status::{NO_COMMAND, WANT_OF_MEMORY};
 use desk_texts::write_text;
@@ -73,6 +75,13 @@ pub fn desk<O: Opener, K: Sink>(
         (record { ends = result.feeds.items; history = result.history.items })
         (sink_seen K.written K.faults sink.old sink.new) }
 
+    // If the bodies were read and memory was left, the history has each accepted line of each feed once and in order, with one end a feed;
+    // each finding that was filed is right for the sheet that its pin saw; and each match has a finding filed after its last change.
+    ensures history { (pivots : ℕ) (feeds : List Text) → AsksOnce (map string_bytes words.now) pivots feeds →
+        HaveRun (length feeds) result.feeds.items → result.status ≢ WANT_OF_MEMORY →
+        HasWholeHistory O.S.left O.S.faults (told_bytes (O.told opener.old) feeds) (length feeds) pivots
+        (record { ends = result.feeds.items; history = result.history.items }) }
+
     // The converse: well-formed words with good feeds of different books give status 0, unless an opening, a read or a write fails or
     // no memory is left. An opener that promised to fail only under a name that has no source left opens all of them.
     ensures complete { (pivots : ℕ) (feeds : List Text) → AreOnceWords (map string_bytes words.now) pivots feeds →
@@ -88,7 +97,8 @@ pub fn desk<O: Opener, K: Sink>(
         result.status ≢ NO_COMMAND }
     ensures untouched { IsNoCommand (map string_bytes words.now) → opener.new ≡ opener.old }
 
-    // Status 3 comes only if an opening failed. It is due, and no feed is begun, if the opener has no source for one of the names.
+    // Status 3 comes only if an opening failed. It is due, and no feed is begun, if the opener has no source for one of the names. The
+    // opener's count of faults rises with no other status, but for the 5 or 7 in its place.
     ensures not_opened { result.status ≡ NOT_OPENED → (pivots : ℕ) × (feeds : List Text)
         × AsksOnce (map string_bytes words.now) pivots feeds
         × (k : ℕ) × FailsAt feeds (opener_seen O.told O.opens_told O.faults opener.old opener.new) k }
@@ -96,15 +106,19 @@ pub fn desk<O: Opener, K: Sink>(
         k < length feeds → LacksSource (O.told opener.old) feeds k → IsOrYields NOT_OPENED result.status }
     ensures none_begun { (pivots : ℕ) (feeds : List Text) (k : ℕ) → AsksOnce (map string_bytes words.now) pivots feeds →
         k < length feeds → LacksSource (O.told opener.old) feeds k → result.feeds.items ≡ [] }
+    ensures opener_faults { (O.faults opener.new ≡ O.faults opener.old) ⊎ IsOrYields NOT_OPENED result.status }
 
-    // Status 4 comes only if a read of a feed failed; if the bodies were read, it is due if one of them stopped so.
+    // Status 4 comes only if a read of a feed failed. It is due if that was while a header was read, or if the bodies were read and one of
+    // them stopped so.
     ensures not_read { result.status ≡ NOT_READ → HasFailedRead O.S.faults result.feeds.items }
     ensures not_read_due { (pivots : ℕ) (feeds : List Text) → AsksOnce (map string_bytes words.now) pivots feeds →
         HaveRun (length feeds) result.feeds.items → SomeStop stops.ReadFault result.feeds.items → IsOrYields NOT_READ result.status }
+    ensures header_not_read_due { EndsWithout stops.ReadFault result.feeds.items → IsOrYields NOT_READ result.status }
     ensures read_as_promised { O.promises opener.old → result.status ≢ NOT_READ }
 
-    // Status 5 comes only if a write failed.
+    // Status 5 comes if a write failed, and only then.
     ensures not_written { result.status ≡ NOT_WRITTEN → Rose (K.faults sink.old) (K.faults sink.new) }
+    ensures else_written { result.status ≢ NOT_WRITTEN → K.faults sink.new ≡ K.faults sink.old }
 
     // Status 6 comes if the first line of a feed is no header, or two feeds are of one book, and only then.
     ensures bad_header { result.status ≡ BAD_HEADER → EndsWithout stops.BadHeader result.feeds.items
@@ -127,6 +141,8 @@ pub fn desk<O: Opener, K: Sink>(
 {
     prove!({
         no_command_has_a_cause();
+        statuses_have_causes::<O, K>();
+        bodies_are_in_the_history::<O, K>();
         true
     });
     match read_words(alloc, words) {

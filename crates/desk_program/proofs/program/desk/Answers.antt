@@ -1,10 +1,12 @@
-use Rattle.std.proofs.Common.{rules, ℕ, List, Some, Err, length, map, string_bytes, Global, refl, sym, ap, subst, arith, inl, inr, ◌∙◌}
+use Rattle.std.proofs.Common.{rules, ◌≡◌, ℕ, List, Some, Err, length, map, string_bytes, Global, refl, sym, ap, subst, arith, inl, inr, ◌∙◌}
 use Rattle.std.proofs.lemmas.List.{length-map}
 use Rattle.clap.specs.Words.{Text}
 use Rattle.desk_words.specs.Commands.{command_of}
 use Rattle.desk_definitions.specs.Opening.{LacksSource, told_bytes}
 use Rattle.desk_definitions.specs.Causes.{AreGoodFeeds, HaveRun, HaveTwins}
-use Rattle.desk_program.proofs.Commands.{course_of_once, course_of_none, course_without_memory, same_feeds, asks_nothing}
+use Rattle.desk_definitions.specs.Course.{Outcome}
+use Rattle.desk_laws.specs.Histories.{HasWholeHistory}
+use Rattle.desk_program.proofs.Commands.{same_pivots, course_of_once, course_of_none, course_without_memory, same_feeds, asks_nothing}
 use Rattle.desk_program.proofs.program.desk.Goals as goal
 
 pub returns-in-Ok-clause-course : goal.returns-in-Ok-clause-course
@@ -18,6 +20,48 @@ returns-in-Ok-clause-no_command_due g c = λ none. absurd (c.in-Ok.ensures.no_co
 
 pub returns-in-Ok-clause-untouched : goal.returns-in-Ok-clause-untouched
 returns-in-Ok-clause-untouched g c = λ none. absurd (c.in-Ok.ensures.no_command_due none)
+
+pub returns-in-Ok-clause-history : goal.returns-in-Ok-clause-history
+returns-in-Ok-clause-history g c = λ pivots feeds asks ran not_seven.
+    let S = g.O.S.Source in
+    let O = g.O.Opener in
+    let words = map (string_bytes {Z = Global}) c.args.words.now in
+    let told = O.told c.args.opener.now in
+    let names = map (string_bytes {Z = Global}) c.names.result.now in
+    let found = c.in-Ok.ensures.command ∙ ap Some c.once_words-pivots.ensures in
+    let same : feeds ≡ names = same_feeds words pivots _ feeds _ asks found ∙ sym c.names.ensures in
+    let budget : pivots ≡ c.once_words-pivots.result.0 = same_pivots words pivots _ feeds _ asks found in
+    let out : Outcome g.row.O-S.Denot = record { ends = c.once.result.feeds.items; history = c.once.result.history.items } in
+    let P : List Text → Type 0 = λ texts. HaveRun (length texts) c.once.result.feeds.items in
+    let Q : List Text → Type 0 = λ texts. HasWholeHistory S.left S.faults (told_bytes told texts) (length texts) c.once_words-pivots.result.0 out in
+    let R : ℕ → Type 0 = λ n. HasWholeHistory S.left S.faults (told_bytes told feeds) (length feeds) n out in
+    subst R (sym budget) (subst Q (sym same)
+    (c.bodies_are_in_the_history.ensures names c.once_words-pivots.result.0 c.once.result.status c.args.opener.now c.once.new.opener c.args.sink.now c.once.new.sink out
+    c.once.ensures.course (subst P same ran) not_seven))
+
+pub returns-in-Ok-clause-header_not_read_due : goal.returns-in-Ok-clause-header_not_read_due
+returns-in-Ok-clause-header_not_read_due g c =
+    let names = map (string_bytes {Z = Global}) c.names.result.now in
+    let out : Outcome g.row.O-S.Denot = record { ends = c.once.result.feeds.items; history = c.once.result.history.items } in
+    let causes = c.statuses_have_causes.ensures names c.once_words-pivots.result.0 c.once.result.status c.args.opener.now c.once.new.opener c.args.sink.now c.once.new.sink out
+    c.once.ensures.course in
+    causes.header_not_read_due
+
+pub returns-in-Ok-clause-else_written : goal.returns-in-Ok-clause-else_written
+returns-in-Ok-clause-else_written g c =
+    let names = map (string_bytes {Z = Global}) c.names.result.now in
+    let out : Outcome g.row.O-S.Denot = record { ends = c.once.result.feeds.items; history = c.once.result.history.items } in
+    let causes = c.statuses_have_causes.ensures names c.once_words-pivots.result.0 c.once.result.status c.args.opener.now c.once.new.opener c.args.sink.now c.once.new.sink out
+    c.once.ensures.course in
+    causes.else_written
+
+pub returns-in-Ok-clause-opener_faults : goal.returns-in-Ok-clause-opener_faults
+returns-in-Ok-clause-opener_faults g c =
+    let names = map (string_bytes {Z = Global}) c.names.result.now in
+    let out : Outcome g.row.O-S.Denot = record { ends = c.once.result.feeds.items; history = c.once.result.history.items } in
+    let causes = c.statuses_have_causes.ensures names c.once_words-pivots.result.0 c.once.result.status c.args.opener.now c.once.new.opener c.args.sink.now c.once.new.sink out
+    c.once.ensures.course in
+    elim causes.opener_faults [ inl none ↦ inl none | inr failed ↦ inr failed.1 ]
 
 pub returns-in-Ok-clause-complete : goal.returns-in-Ok-clause-complete
 returns-in-Ok-clause-complete g c = λ pivots feeds spelled good.
