@@ -13,3 +13,6 @@ pub use desk_definitions::{DeskEnd, FeedEnd, status};
 pub use desk_once::once;
 pub use process::exit_code;
 pub use program::desk;
+
+#[cfg(test)]
+mod tests;
