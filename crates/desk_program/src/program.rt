@@ -57,6 +57,8 @@ fn once_words(command: Command) -> (u32, FeedNames)
 /// Runs the command that the words name. `once [--pivots N] FEED...` opens the feeds in order, reads them one after another, each to
 /// its end or to what stops it before, judges each match that is due, and writes the report; or one error line, with the status of
 /// its cause; or, if no memory is left, nothing.
+///
+/// The status is one of `desk_definitions::status`. Costs what `once` costs, and O(bytes of the words) for reading them.
 pub fn desk<O: Opener, K: Sink>(
     alloc: Global,
     words: &[String],
