@@ -1,1 +1,4 @@
 pub mod Opened
+pub mod FirstSteps
+pub mod HeaderReads
+pub mod BegunFeeds

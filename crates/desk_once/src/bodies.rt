@@ -1,0 +1,47 @@
+//! The bodies of the feeds, read one after another onto the board.
+ghost use Rattle.std.specs.Prelude.{ℕ, List, Option, ◌≡◌, ◌+◌, ◌<◌, ◌≤◌, length, vec_len, vec_capacity, IsTrue, true, false};
+ghost use Rattle.std.specs.VecDeque.{deque_len};
+ghost use Rattle.scan_types.specs.declared.limits.TheConstants.{MOST_FEEDS};
+ghost use Rattle.report_text.specs.Stops.{is_reported};
+ghost use Rattle.feed_bodies.specs.Bodies.{IsReadyFor};
+ghost use Rattle.desk_opening.specs.Headers.{IsHeaderRead, AreHeadersRead};
+ghost use Rattle.desk_once.specs.Bodies.{AreCutAt, AreReadSoFar, IsNextRead};
+
+use board_definitions::{FeedStop, Law};
+use desk_definitions::FeedEnd;
+use desk_io::Source;
+use desk_opening::Begun;
+use feed_bodies::read_body;
+use quote_board::Board;
+use std::alloc::Global;
+use std::collections::VecDeque;
+
+// Whether a feed was read to its end, to a limit of size, or to a fault of reading.
+fn is_reported(stop: FeedStop) -> bool
+    ensures { result ≡ is_reported stop }
+{
+    matches!(stop, FeedStop::End | FeedStop::Cut | FeedStop::ReadFault)
+}
+
+// Reads the body of the next feed, and returns whether it was read whole.
+fn read_next<W: Law, S: Source + Drop>(
+    alloc: Global,
+    board: &mut Board<W>,
+    next: Begun<S>,
+    ends: &mut Vec<FeedEnd<S>>,
+) -> bool
+    requires number { vec_len ends.old < MOST_FEEDS }
+    requires room { vec_len ends.old < vec_capacity ends.old }
+    requires board { IsReadyFor board.old (vec_len ends.old) next.header }
+    requires reader { IsHeaderRead S.left None (vec_len ends.old) next.header next.reader }
+    ensures next { (told : ℕ → Option (List ℕ)) → IsHeaderRead S.left (told (vec_len ends.old)) (vec_len ends.old) next.header next.reader →
+        IsNextRead S.left S.faults told next.header ends.old.items ends.new.items board.old board.new result }
+    ensures room { vec_capacity ends.new ≡ vec_capacity ends.old }
+{
+    let Begun { header, reader } = next;
+    let end = read_body(alloc, board, ends.len() as u8, header, reader);
+    let whole = is_reported(end.stop);
+    let pushed = ends.push(end);
+    prove!(pushed.is_ok());
+    whole
+}
