@@ -3,3 +3,6 @@ pub mod Stops
 pub mod Statuses
 pub mod Wholes
 pub mod Complete
+pub mod BodyReads
+pub mod Histories
+pub mod SoFar
