@@ -68,6 +68,12 @@ module _ {S : Type 0} (left : S → Option (List ℕ)) (faults : S → ℕ) (tol
         no_lines = subst Q (sym h.history_is) (no_lines 0 ends h.reads (length ends) (omega arith));
       }
 
+  pub popped : (rules : List (Option VoidRule)) (ends : List (FeedEnd S)) (begun : List (Begun S)) (next : Begun S) (rest : List (Begun S)) (history : List Entry) → begun ≡ next ∷ rest
+      → AreReadSoFar left faults told rules ends begun history → AreReadSoFar left faults told rules ends (next ∷ rest) history
+  popped rules ends begun next rest history is h =
+      let P : List (Begun S) → Type 0 = λ xs. AreReadSoFar left faults told rules ends xs history in
+      subst P is h
+
   same_headers : (ends after : List (FeedEnd S)) (end : FeedEnd S) (next : Begun S) (rest : List (Begun S)) → after ≡ ends ++ end ∷ [] → end.header ≡ Some next.header → headers_of ends (next ∷ rest) ≡ headers_of after rest
   same_headers ends after end next rest is header =
       let f : FeedEnd S → Option Header = λ x. x.header in
