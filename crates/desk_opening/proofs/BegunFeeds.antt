@@ -1,15 +1,13 @@
 -- The feeds whose headers were read, one after another.
-use Rattle.std.proofs.Common.{◌≡◌, ℕ, zero, suc, ◌+◌, ◌<◌, ◌≤◌, Bool, true, false, not, List, [], ◌∷◌, ◌++◌, length, map, take, drop, Option, Some, None, refl, sym, ap, ap₂, ◌∙◌, subst, arith}
+use Rattle.std.proofs.Common.{◌≡◌, ℕ, suc, ◌+◌, ◌<◌, not, List, [], ◌∷◌, ◌++◌, length, map, drop, Option, refl, sym, ap, ◌∙◌, subst, arith}
 use Rattle.std.specs.Prelude.{Result, Ok, Err, IfOk}
-use Rattle.std.proofs.lemmas.List.{length-append, length-map}
+use Rattle.std.proofs.lemmas.List.{length-append}
 use Rattle.std.proofs.Math.ListN.{take-append-drop}
 use Rattle.feed_text.specs.declared.step.Step.TheVariants as step
-use Rattle.feed_reader.specs.Reader.{ReaderView, its_steps, answered}
-use Rattle.board_definitions.specs.declared.event.FeedStop.TheVariants as stops
+use Rattle.feed_reader.specs.Reader.{its_steps}
 use Rattle.desk_definitions.specs.declared.feed_end.FeedEnd.{FeedEnd}
-use Rattle.desk_definitions.specs.Opening.{IsOpened, AreOpened}
 use Rattle.desk_definitions.specs.Ends.{IsReadSo}
-use Rattle.desk_definitions.specs.Reads.{FeedRead, IsBegun, AreBegun, AreReadSo}
+use Rattle.desk_definitions.specs.Reads.{FeedRead, AreBegun, AreReadSo}
 use Rattle.desk_opening.specs.declared.begun.Begun.{Begun}
 use Rattle.desk_opening.specs.declared.begun.HeaderStop.{HeaderStop}
 use Rattle.desk_opening.specs.declared.begun.HeaderStop.TheVariants.{ReadFault, BadHeader, NoMemory}

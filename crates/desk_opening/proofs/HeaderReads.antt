@@ -1,5 +1,5 @@
 -- What the first step of a feed says of its header.
-use Rattle.std.proofs.Common.{◌≡◌, ℕ, zero, suc, ◌+◌, ◌<◌, ◌≤◌, Bool, true, false, not, List, [], ◌∷◌, ◌++◌, length, take, Option, Some, None, MatchOption, refl, sym, ap, ap₂, ◌∙◌, subst, arith}
+use Rattle.std.proofs.Common.{◌≡◌, ℕ, ◌+◌, ◌<◌, Bool, true, false, not, List, [], ◌∷◌, ◌++◌, take, Option, Some, None, refl, sym, ap, ◌∙◌, subst, arith}
 use Rattle.std.specs.Prelude.{slice_get, if◌then◌else◌}
 use Rattle.std.specs.Io.KnownBytes.{Consumes, IsAtEnd}
 use Rattle.std.proofs.KnownBytes.{Consumes-nil}
@@ -16,8 +16,7 @@ use Rattle.board_definitions.specs.declared.event.FeedStop.{FeedStop}
 use Rattle.board_definitions.specs.declared.event.FeedStop.TheVariants as stops
 use Rattle.desk_definitions.specs.declared.feed_end.FeedEnd.{FeedEnd}
 use Rattle.desk_definitions.specs.Opening.{IsOpened}
-use Rattle.desk_definitions.specs.Ends.{IsStopOf, IsReadSo, AreKept, refused_in}
-use Rattle.desk_definitions.specs.Reads.{FeedRead}
+use Rattle.desk_definitions.specs.Ends.{IsStopOf, AreKept, refused_in}
 use Rattle.desk_opening.specs.declared.begun.HeaderStop.TheVariants.{ReadFault, BadHeader, NoMemory}
 use Rattle.desk_opening.specs.Headers.{IsHeaderRead, HasNone}
 use Rattle.desk_opening.proofs.FirstSteps.{IsFirst, first_step, no_header, fault_is, clear_of}

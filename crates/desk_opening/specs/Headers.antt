@@ -1,7 +1,6 @@
 -- The headers of the opened feeds, read one after another.
-use Rattle.std.specs.Prelude.{ℕ, ◌≡◌, ◌<◌, ◌≤◌, ◌+◌, true, false, List, [], ◌∷◌, ◌++◌, map, length, Option, Some, None}
+use Rattle.std.specs.Prelude.{ℕ, ◌≡◌, ◌<◌, ◌≤◌, ◌+◌, true, false, List, [], ◌∷◌, ◌++◌, length, Option, Some, None}
 use Rattle.std.specs.Io.KnownBytes.{Consumes, IsAtEnd}
-use Rattle.feed_text.specs.declared.cause.Refusal.{Refusal}
 use Rattle.feed_text.specs.declared.header.Header.{Header}
 use Rattle.feed_text.specs.declared.step.Step.{Step}
 use Rattle.feed_text.specs.declared.step.Step.TheVariants as step
@@ -13,7 +12,6 @@ use Rattle.desk_definitions.specs.Reads.{FeedRead, AreBegun, AreReadSo}
 use Rattle.desk_opening.specs.declared.begun.Begun.{Begun}
 use Rattle.desk_opening.specs.declared.begun.HeaderStop.{HeaderStop}
 use Rattle.desk_opening.specs.declared.begun.HeaderStop.TheVariants.{ReadFault, BadHeader, NoMemory}
-use Rattle.desk_opening.specs.declared.begun.NoHeaders.{NoHeaders}
 
 -- a reader of this feed has answered this header and nothing else, and took what its source gave
 pub record IsHeaderRead {S : Type 0} (left : S → Option (List ℕ)) (told : Option (List ℕ)) (feed : ℕ) (header : Header) (reader : ReaderView S) : Type 0 where

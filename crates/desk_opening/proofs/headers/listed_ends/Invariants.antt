@@ -1,5 +1,4 @@
 use Rattle.std.proofs.Common.{◌≡◌, ◌+◌, ◌++◌, length}
-use Rattle.std.specs.VecDeque.{deque_len}
 use Rattle.desk_opening.specs.Headers.{begun_ends}
 use Rattle.desk_opening.proofs.headers.listed_ends.Given as goal
 

@@ -1,8 +1,8 @@
-use Rattle.std.proofs.Common.{◌≡◌, ◌∙◌, List, [], ◌∷◌, ◌++◌, ap, sym, subst}
+use Rattle.std.proofs.Common.{◌∙◌, List, [], ◌∷◌, ◌++◌, ap, sym, subst}
 use Rattle.desk_definitions.specs.declared.feed_end.FeedEnd.{FeedEnd}
 use Rattle.desk_opening.specs.declared.begun.HeaderStop.{HeaderStop}
 use Rattle.desk_opening.specs.declared.begun.HeaderStop.TheVariants.{NoMemory}
-use Rattle.desk_opening.specs.Headers.{StopsSo, begun_ends}
+use Rattle.desk_opening.specs.Headers.{StopsSo}
 use Rattle.desk_opening.proofs.BegunFeeds.{stops_so, before_of}
 use Rattle.desk_opening.proofs.headers.stopped.Goals as goal
 
