@@ -74,7 +74,7 @@ module _ {S : Type 0} (left : S → Option (List ℕ)) (faults : S → ℕ) (tol
       let P : List (Begun S) → Type 0 = λ xs. AreReadSoFar left faults told rules ends xs history in
       subst P is h
 
-  same_headers : (ends after : List (FeedEnd S)) (end : FeedEnd S) (next : Begun S) (rest : List (Begun S)) → after ≡ ends ++ end ∷ [] → end.header ≡ Some next.header → headers_of ends (next ∷ rest) ≡ headers_of after rest
+  pub same_headers : (ends after : List (FeedEnd S)) (end : FeedEnd S) (next : Begun S) (rest : List (Begun S)) → after ≡ ends ++ end ∷ [] → end.header ≡ Some next.header → headers_of ends (next ∷ rest) ≡ headers_of after rest
   same_headers ends after end next rest is header =
       let f : FeedEnd S → Option Header = λ x. x.header in
       let others : List (Option Header) = map (λ (b : Begun S). Some b.header) rest in

@@ -5,7 +5,7 @@ ghost use Rattle.scan_types.specs.declared.limits.TheConstants.{MOST_FEEDS};
 ghost use Rattle.report_text.specs.Stops.{is_reported};
 ghost use Rattle.feed_bodies.specs.Bodies.{IsReadyFor};
 ghost use Rattle.desk_opening.specs.Headers.{IsHeaderRead, AreHeadersRead};
-ghost use Rattle.desk_once.specs.Bodies.{AreCutAt, AreReadSoFar, IsNextRead};
+ghost use Rattle.desk_once.specs.Bodies.{AreCutAt, AreReadSoFar, IsNextRead, headers_of};
 
 use board_definitions::{FeedStop, Law};
 use desk_definitions::FeedEnd;
@@ -61,6 +61,7 @@ fn read_while<W: Law, S: Source + Drop>(
         MatchBool result (AreReadSoFar S.left S.faults told board.old.fixed.rules ends.new.items [] board.new.history)
         (AreCutAt S.left S.faults told ends.new.items begun.new.items board.new.history) }
     ensures fixed { board.new.fixed ≡ board.old.fixed }
+    ensures headers { headers_of ends.new.items begun.new.items ≡ headers_of ends.old.items begun.old.items }
     ensures few { length ends.new.items + deque_len begun.new ≡ length ends.old.items + deque_len begun.old }
     ensures room { vec_capacity ends.old ≤ vec_capacity ends.new }
 {

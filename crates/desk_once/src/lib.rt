@@ -4,6 +4,7 @@
 //! - `run`: what it does, as one relation.
 #![tactic(auto)]
 
+mod board;
 mod bodies;
 mod command;
 mod run;
