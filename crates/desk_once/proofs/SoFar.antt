@@ -25,7 +25,7 @@ some_header None header e = absurd (cc)
 some_header (Some x) header e = refl
 
 -- the item behind some
-item_behind : {X : Type 0} (xs : List X) (x : X) (ys : List X) (n : ℕ) → n ≡ length xs → slice_get (xs ++ x ∷ ys) n ≡ Some x
+pub item_behind : {X : Type 0} (xs : List X) (x : X) (ys : List X) (n : ℕ) → n ≡ length xs → slice_get (xs ++ x ∷ ys) n ≡ Some x
 item_behind [] x ys zero e = refl
 item_behind [] x ys (suc n) e = absurd (omega (arith, e))
 item_behind (y ∷ xs) x ys zero e = absurd (omega (arith, e))

@@ -48,7 +48,7 @@ fn read_next<W: Law, S: Source + Drop>(
 
 // Reads the bodies of the feeds, one after another, up to the first for which no memory is left, and returns whether there was memory
 // for all.
-fn read_while<W: Law, S: Source + Drop>(
+pub(crate) fn read_while<W: Law, S: Source + Drop>(
     alloc: Global,
     board: &mut Board<W>,
     begun: &mut VecDeque<Begun<S>>,

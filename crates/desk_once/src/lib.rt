@@ -6,7 +6,11 @@
 
 mod board;
 mod bodies;
+mod books;
 mod command;
+mod finish;
+mod opened;
+mod reporting;
 mod run;
 
 pub use command::once;
