@@ -1,0 +1,4 @@
+pub mod Wholes
+pub mod Heads
+pub mod Tableaus
+pub mod Laws
