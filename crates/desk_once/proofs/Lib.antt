@@ -3,3 +3,5 @@ pub mod Stops
 pub mod Statuses
 pub mod Wholes
 pub mod Complete
+pub mod InPlace
+pub mod ReportFacts

@@ -6,6 +6,7 @@
 
 mod bodies;
 mod command;
+mod reporting;
 mod run;
 
 pub use command::once;
