@@ -7,3 +7,5 @@ pub mod BodyReads
 pub mod Histories
 pub mod SoFar
 pub mod Starts
+pub mod InPlace
+pub mod ReportFacts
