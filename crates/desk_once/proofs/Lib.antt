@@ -9,3 +9,4 @@ pub mod SoFar
 pub mod Starts
 pub mod InPlace
 pub mod ReportFacts
+pub mod SeenFeeds
