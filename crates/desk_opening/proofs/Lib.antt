@@ -1,1 +1,5 @@
 pub mod Opened
+pub mod FirstSteps
+pub mod HeaderReads
+pub mod BegunFeeds
+pub mod TwinEnds

@@ -48,4 +48,11 @@ impl FeedParts {
     {
         self.items.as_slice()
     }
+
+    /// The same, as a `Vec` of their own. Takes no memory.
+    pub fn into_items(self) -> Vec<FeedPart>
+        ensures { result.items ≡ self }
+    {
+        self.items
+    }
 }

@@ -1,4 +1,4 @@
 mod Orders
 mod Matches
-mod Through
-mod Boards
+pub mod Through
+pub mod Boards
