@@ -6,3 +6,4 @@ pub mod Complete
 pub mod BodyReads
 pub mod Histories
 pub mod SoFar
+pub mod NoBodies

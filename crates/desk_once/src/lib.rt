@@ -7,6 +7,7 @@
 mod board;
 mod bodies;
 mod command;
+mod headless;
 mod run;
 
 pub use command::once;
