@@ -11,3 +11,4 @@ pub mod InPlace
 pub mod ReportFacts
 pub mod SeenFeeds
 pub mod Judging
+pub mod NoBodies
