@@ -1,8 +1,9 @@
 -- Before and after the due matches are judged.
-use Rattle.std.proofs.Common.{◌≡◌, ℕ, zero, suc, ◌+◌, ◌≤◌, Bool, true, false, ◌||◌, List, [], ◌∷◌, length, Option, Some, None, refl, sym, ap, ◌∙◌, inl, inr, ◌⊎◌}
-use Rattle.std.specs.Prelude.{slice_get}
+use Rattle.std.proofs.Common.{◌≡◌, ℕ, zero, suc, ◌+◌, ◌≤◌, Bool, true, false, ◌||◌, List, [], ◌∷◌, ◌++◌, length, Option, Some, None, refl, sym, ap, subst, ◌∙◌, inl, inr, ◌⊎◌}
+use Rattle.std.specs.Prelude.{slice_get, take}
 use Rattle.std.specs.List.{list_any}
 use Rattle.std.proofs.lemmas.Slice.Eq.{bytes_eq-Decides}
+use Rattle.std.proofs.Math.Seq.{take-append_seam}
 use Rattle.std.proofs.KnownBytes.{Keeps-refl}
 use Rattle.scan_types.specs.declared.rule.VoidRule.{VoidRule}
 use Rattle.report_text.specs.Seen.{SeenFeed}
@@ -48,6 +49,27 @@ unpinned number ends reads caller pin is live =
     let entry : Entry = record { caller = pin.caller; event = Pinned m } in
     true_false (list_any p (bodies_of number ends reads)) (any_there p (bodies_of number ends reads) pin.version entry live.pinned ((bytes_eq-Decides m m).1 refl)) (bodies_unpinned number ends reads m)
 
+pub moved_all : (rules : List (Option VoidRule)) (b d k l : ℕ) (before front after whole : List Entry) → b ≡ d → k ≡ l → before ≡ front → after ≡ whole
+    → IsAllJudged rules (findings_with b) k before after → IsAllJudged rules (findings_with d) l front whole
+moved_all rules b d k l before front after whole p q r s h =
+    let P : ℕ → Type 0 = λ b. IsAllJudged rules (findings_with b) k before after in
+    let Q : ℕ → Type 0 = λ k. IsAllJudged rules (findings_with d) k before after in
+    let R : List Entry → Type 0 = λ before. IsAllJudged rules (findings_with d) l before after in
+    let T : List Entry → Type 0 = λ after. IsAllJudged rules (findings_with d) l front after in
+    subst T s (subst R r (subst Q q (subst P p h)))
+
+pub moved_part : (rules : List (Option VoidRule)) (b d k l : ℕ) (before front after whole : List Entry) → b ≡ d → k ≡ l → before ≡ front → after ≡ whole
+    → IsJudgedInPart rules (findings_with b) k before after → IsJudgedInPart rules (findings_with d) l front whole
+moved_part rules b d k l before front after whole p q r s h =
+    let P : ℕ → Type 0 = λ b. IsJudgedInPart rules (findings_with b) k before after in
+    let Q : ℕ → Type 0 = λ k. IsJudgedInPart rules (findings_with d) k before after in
+    let R : List Entry → Type 0 = λ before. IsJudgedInPart rules (findings_with d) l before after in
+    let T : List Entry → Type 0 = λ after. IsJudgedInPart rules (findings_with d) l front after in
+    subst T s (subst R r (subst Q q (subst P p h)))
+
+pub given_back : {X : Type 0} (n : ℕ) (xs rest items : List X) → xs ≡ items → n ≡ length items → take n (xs ++ rest) ≡ items
+given_back n xs rest items same count = ap (λ k. take k (xs ++ rest)) (count ∙ ap length (sym same)) ∙ take-append_seam xs rest ∙ same
+
 pub nothing_written : (before : Option (List ℕ)) (faults : ℕ) → WritesNothing (record { written_before = before; written_after = before; faults_before = faults; faults_after = faults })
 nothing_written before faults = record { kept = Keeps-refl before; no_fault = refl }
 
@@ -63,7 +85,7 @@ module _ {S : Type 0} (left : S → Option (List ℕ)) (faults : S → ℕ) (tol
       → ((due : Due) × (due.status ≡ status_of out.ends) × IsReport budget seen due.text × IsWritten due status sink) ⊎ ((status ≡ WANT_OF_MEMORY) × WritesNothing sink)
       → RunsSo left faults told (length out.ends) budget out status sink
   reported status reads rules seen bodies judged are (inl written) =
-      inl (written.0, inr (inr (record { reads = reads; rules = rules; bodies = bodies; judged = judged; seen = seen; seen_are = are; status_is = written.1; report = written.2.0 })), written.2.1)
+      inl (written.0, inr (inr (record { reads = reads; rules = rules; bodies = bodies; judged = judged; seen = seen; seen_are = are; status_is = written.1; report = written.2 })), written.3)
   reported status reads rules seen bodies judged are (inr none) =
       inr (none.0, none.1, inr (record { reads = reads; rules = rules; bodies = bodies; judged = record { middle = out.history; judged = judged.judged; rest = inl refl } }))
 
