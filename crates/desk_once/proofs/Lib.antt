@@ -10,3 +10,5 @@ pub mod Starts
 pub mod InPlace
 pub mod ReportFacts
 pub mod SeenFeeds
+pub mod Judging
+pub mod NoBodies

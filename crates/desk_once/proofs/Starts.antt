@@ -1,8 +1,8 @@
 -- From the headers of all feeds to their bodies.
-use Rattle.std.proofs.Common.{◌≡◌, ◌≢◌, ℕ, zero, suc, ◌+◌, ◌≤◌, List, [], ◌∷◌, ◌++◌, length, map, Option, Some, None, refl, sym, ap, ◌∙◌, subst, arith, append-nil}
+use Rattle.std.proofs.Common.{◌≡◌, ◌≢◌, ℕ, zero, suc, ◌+◌, ◌≤◌, List, [], ◌∷◌, ◌++◌, length, map, Option, Some, None, refl, sym, ap, ◌∙◌, subst, arith, append-nil, inl, inr}
 use Rattle.std.specs.Prelude.{slice_get, All, IsTrue, take, option_map}
 use Rattle.std.specs.List.{AllPairs}
-use Rattle.std.proofs.lemmas.List.{take-append_seam}
+use Rattle.std.proofs.Math.Seq.{take-append_seam}
 use Rattle.scan_types.specs.declared.rule.VoidRule.{VoidRule}
 use Rattle.feed_text.specs.declared.header.Header.{Header}
 use Rattle.board_definitions.specs.declared.event.Entry.{Entry}

@@ -1,5 +1,5 @@
 //! The bodies of the feeds, read one after another onto the board.
-ghost use Rattle.std.specs.Prelude.{ℕ, List, Option, ◌≡◌, ◌+◌, ◌<◌, ◌≤◌, length, vec_capacity, None, [], MatchBool};
+ghost use Rattle.std.specs.Prelude.{ℕ, List, Option, ◌≡◌, ◌+◌, ◌<◌, ◌≤◌, length, vec_capacity, None, [], MatchBool, ⊤};
 ghost use Rattle.std.specs.VecDeque.{deque_len};
 ghost use Rattle.scan_types.specs.declared.limits.TheConstants.{MOST_FEEDS};
 ghost use Rattle.report_text.specs.Stops.{is_reported};
@@ -60,6 +60,7 @@ pub(crate) fn read_while<W: Law, S: Source + Drop>(
     ensures bodies { (told : ℕ → Option (List ℕ)) → AreReadSoFar S.left S.faults told board.old.fixed.rules ends.old.items begun.old.items board.old.history →
         MatchBool result (AreReadSoFar S.left S.faults told board.old.fixed.rules ends.new.items [] board.new.history)
         (AreCutAt S.left S.faults told ends.new.items begun.new.items board.new.history) }
+    ensures all { MatchBool result (begun.new.items ≡ []) ⊤ }
     ensures fixed { board.new.fixed ≡ board.old.fixed }
     ensures headers { headers_of ends.new.items begun.new.items ≡ headers_of ends.old.items begun.old.items }
     ensures few { length ends.new.items + deque_len begun.new ≡ length ends.old.items + deque_len begun.old }

@@ -37,13 +37,13 @@ pub(crate) fn finish<S: Source + Drop, K: Sink>(
 {
     let caller = ends.len() as u8 + 1;
     let mut bench = Bench::new(alloc, pivots);
-    if judge_due(alloc, &mut board, &mut bench, caller).is_err() {
+    let Ok(()) = judge_due(alloc, &mut board, &mut bench, caller) else {
         return DeskEnd {
             status: WANT_OF_MEMORY,
             history: board.into_history(),
             feeds: ends,
         };
-    }
+    };
     let status = write_the_report(alloc, pivots, &board, ends.as_mut_slice(), sink);
     DeskEnd {
         status,

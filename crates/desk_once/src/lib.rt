@@ -11,6 +11,7 @@ mod command;
 mod finish;
 mod opened;
 mod reporting;
+mod headless;
 mod run;
 
 pub use command::once;
