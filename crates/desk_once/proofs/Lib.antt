@@ -3,3 +3,12 @@ pub mod Stops
 pub mod Statuses
 pub mod Wholes
 pub mod Complete
+pub mod BodyReads
+pub mod Histories
+pub mod SoFar
+pub mod Starts
+pub mod InPlace
+pub mod ReportFacts
+pub mod SeenFeeds
+pub mod Judging
+pub mod NoBodies

@@ -4,7 +4,14 @@
 //! - `run`: what it does, as one relation.
 #![tactic(auto)]
 
+mod board;
+mod bodies;
+mod books;
 mod command;
+mod finish;
+mod opened;
+mod reporting;
+mod headless;
 mod run;
 
 pub use command::once;

@@ -10,8 +10,7 @@ use board_definitions::FeedStop;
 use desk_definitions::FeedEnd;
 use desk_io::Source;
 use feed_reader::FeedReader;
-use feed_text::Step;
-use report_text::Refusals;
+use feed_text::{Refusals, Step};
 use scan_types::WantOfMemory;
 use std::alloc::Global;
 use std::collections::VecDeque;
@@ -119,7 +118,7 @@ fn begun_end<S: Source + Drop>(alloc: Global, begun: Begun<S>, feed: u8) -> Feed
         feed,
         header: Some(header),
         lines: 1,
-        refusals: Refusals::of(Vec::new(alloc)),
+        refusals: Refusals::new(alloc),
         stop: FeedStop::NoMemory,
         source: reader.into_source(),
     }
@@ -143,7 +142,7 @@ fn without_header<S: Source + Drop>(
         feed,
         header: None,
         lines: reader.lines(),
-        refusals: Refusals::of(Vec::new(alloc)),
+        refusals: Refusals::new(alloc),
         stop,
         source: reader.into_source(),
     }

@@ -12,22 +12,22 @@ use board_definitions::{FeedStop, Law};
 use desk_definitions::FeedEnd;
 use desk_io::Source;
 use feed_reader::FeedReader;
-use feed_text::{Header as HeaderLine, Refusal, Refusals};
+use feed_text::{Header as HeaderLine, Refusals};
 use quote_board::Board;
 use std::alloc::Global;
 
 /// Takes the next step of the feed, and returns how the feed stopped, if it did.
 fn take_next<W: Law, S: Source + Drop>(
     board: &mut Board<W>,
-    refusals: &mut Vec<Refusal>,
+    refusals: &mut Refusals,
     feed: u8,
     reader: &mut FeedReader<S>,
 ) -> Option<FeedStop>
     requires number { feed < MOST_FEEDS }
-    requires between { IsSomewhere S.left feed board.old refusals.old.items reader.old }
-    ensures stop { (header : Header) (before : BoardView W) → IsBetween S.left feed header before board.old refusals.old.items reader.old →
-        MatchOption result (IsBetween S.left feed header before board.new refusals.new.items reader.new)
-        (λ stop. IsOver S.left S.faults feed header before board.new refusals.new.items reader.new stop) }
+    requires between { IsSomewhere S.left feed board.old refusals.old reader.old }
+    ensures stop { (header : Header) (before : BoardView W) → IsBetween S.left feed header before board.old refusals.old reader.old →
+        MatchOption result (IsBetween S.left feed header before board.new refusals.new reader.new)
+        (λ stop. IsOver S.left S.faults feed header before board.new refusals.new reader.new stop) }
     ensures counted { IfNone result (reader.new.answers ≡ reader.old.answers + 1) }
     ensures promised { S.never_fails reader.old.source → result ≢ Some ReadFault }
     ensures goes_on { ReadsOn S.left S.faults S.later S.never_fails reader.old reader.new }
@@ -52,15 +52,15 @@ fn read_lines<W: Law, S: Source + Drop>(
     feed: u8,
     header: &HeaderLine,
     reader: &mut FeedReader<S>,
-) -> (Vec<Refusal>, FeedStop)
+) -> (Refusals, FeedStop)
     requires number { feed < MOST_FEEDS }
     requires board { IsReadyFor board.old feed header.now }
     requires reader { IsBegun S.left feed header.now reader.old }
-    ensures over { IsOver S.left S.faults feed header.now board.old board.new result.0.items reader.new result.1 }
+    ensures over { IsOver S.left S.faults feed header.now board.old board.new result.0 reader.new result.1 }
     ensures promised { S.never_fails reader.old.source → result.1 ≢ ReadFault }
     ensures goes_on { ReadsOn S.left S.faults S.later S.never_fails reader.old reader.new }
 {
-    let mut refusals = Vec::new(alloc);
+    let mut refusals = Refusals::new(alloc);
     loop {
         if let Some(stop) = take_next(board, &mut refusals, feed, reader) {
             return (refusals, stop);
@@ -95,7 +95,7 @@ pub fn read_body<W: Law, S: Source + Drop>(
         feed,
         header: Some(header),
         lines,
-        refusals: Refusals::of(refusals),
+        refusals,
         stop,
         source: reader.into_source(),
     }

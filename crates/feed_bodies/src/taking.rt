@@ -11,7 +11,7 @@ ghost use Rattle.feed_board_laws.specs.Bodies.{lines_in, HoldsLines, IsAcceptedA
 ghost use Rattle.feed_bodies.specs.Bodies.{stop_of, with_entries};
 
 use board_definitions::{FeedStop, Key, Law};
-use feed_text::{Accepted, Change, Refusal, Step};
+use feed_text::{Accepted, Change, Refusals, Step};
 use quote_board::Board;
 use scan_types::WantOfMemory;
 
@@ -51,7 +51,7 @@ fn add_line<W: Law>(board: &mut Board<W>, feed: u8, line: Accepted) -> Result<()
 /// are as before.
 pub(crate) fn take_step<W: Law>(
     board: &mut Board<W>,
-    refusals: &mut Vec<Refusal>,
+    refusals: &mut Refusals,
     feed: u8,
     step: &Step,
 ) -> Result<(), WantOfMemory>
@@ -59,9 +59,9 @@ pub(crate) fn take_step<W: Law>(
     requires holds { HoldsLines board.old.fixed.rules board.old.history feed (lines_in board.old.history feed) }
     requires accepted { (line : AcceptedLine) → step.now ≡ answer.Line line → IsAcceptedAfter (lines_in board.old.history feed) line }
     ensures added { OnOk result (board.new ≡ with_entries board.old (entries_of feed (accepted_in (step.now ∷ [])))) }
-    ensures kept { OnOk result (refusals.new.items ≡ refusals.old.items ++ refused_in (step.now ∷ [])) }
+    ensures kept { OnOk result (refusals.new ≡ refusals.old ++ refused_in (step.now ∷ [])) }
     ensures unchanged { OnErr result (board.new ≡ board.old) }
-    ensures kept_before { OnErr result (refusals.new.items ≡ refusals.old.items) }
+    ensures kept_before { OnErr result (refusals.new ≡ refusals.old) }
 {
     match step {
         Step::Line(line) => add_line(board, feed, *line),

@@ -5,7 +5,7 @@ use Rattle.feed_bodies.proofs.body.read_lines.Given as goal
 -- between two steps
 abbrev pub invariant-loop-stop : goal.invariant-loop-stop
 invariant-loop-stop g l = record {
-  between : IsBetween g.S.Source.left l.feed l.header l.fn.board l.board l.refusals.items l.reader;
+  between : IsBetween g.S.Source.left l.feed l.header l.fn.board l.board l.refusals l.reader;
   goes_on : ReadsOn g.S.Source.left g.S.Source.faults g.S.Source.later g.S.Source.never_fails l.fn.reader l.reader;
 }
 

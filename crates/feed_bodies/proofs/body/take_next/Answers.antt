@@ -27,7 +27,7 @@ take_step-requires-clause-accepted g c = λ line is.
       fault = c.in-Ok.ensures.fault;
     } in
     let P : List Accepted → Type 0 = λ xs. IsAcceptedAfter xs line in
-    subst P (sym was.holds.lines_are) (may_take g.S.Source.left g.S.Source.faults c.args.feed header before c.args.board.now c.args.refusals.now.items c.args.reader.now c.next.new.self c.in-Ok.step was next line is)
+    subst P (sym was.holds.lines_are) (may_take g.S.Source.left g.S.Source.faults c.args.feed header before c.args.board.now c.args.refusals.now c.args.reader.now c.next.new.self c.in-Ok.step was next line is)
 
 pub returns-in-Some-clause-stop : goal.returns-in-Some-clause-stop
 returns-in-Some-clause-stop g c = λ header before was.
@@ -43,7 +43,7 @@ returns-in-Some-clause-stop g c = λ header before was.
       stays = c.in-Ok.ensures.drained_stays;
       fault = c.in-Ok.ensures.fault;
     } in
-    over_stopped g.S.Source.left g.S.Source.faults c.args.feed header before c.args.board.now c.args.refusals.now.items c.args.reader.now c.next.new.self c.in-Ok.step was next c.in-Some.stop (sym c.stop_of.ensures ∙ c.in-Some.is)
+    over_stopped g.S.Source.left g.S.Source.faults c.args.feed header before c.args.board.now c.args.refusals.now c.args.reader.now c.next.new.self c.in-Ok.step was next c.in-Some.stop (sym c.stop_of.ensures ∙ c.in-Some.is)
 
 pub returns-in-Ok-take_step-clause-stop : goal.returns-in-Ok-take_step-clause-stop
 returns-in-Ok-take_step-clause-stop g c = λ header before was.
@@ -59,7 +59,7 @@ returns-in-Ok-take_step-clause-stop g c = λ header before was.
       stays = c.in-Ok.ensures.drained_stays;
       fault = c.in-Ok.ensures.fault;
     } in
-    between_next g.S.Source.left g.S.Source.faults c.args.feed header before c.args.board.now c.args.refusals.now.items c.args.reader.now c.next.new.self c.in-Ok.step was next c.take_step.new.board c.take_step.new.refusals.items (sym c.stop_of.ensures ∙ c.in-None.is)
+    between_next g.S.Source.left g.S.Source.faults c.args.feed header before c.args.board.now c.args.refusals.now c.args.reader.now c.next.new.self c.in-Ok.step was next c.take_step.new.board c.take_step.new.refusals (sym c.stop_of.ensures ∙ c.in-None.is)
     c.in-Ok-take_step.ensures.added c.in-Ok-take_step.ensures.kept
 
 pub returns-in-Err-take_step-clause-stop : goal.returns-in-Err-take_step-clause-stop
@@ -76,13 +76,13 @@ returns-in-Err-take_step-clause-stop g c = λ header before was.
       stays = c.in-Ok.ensures.drained_stays;
       fault = c.in-Ok.ensures.fault;
     } in
-    let P : BoardView _ → Type 0 = λ board. IsOver g.S.Source.left g.S.Source.faults c.args.feed header before board c.args.refusals.now.items c.next.new.self NoMemory in
+    let P : BoardView _ → Type 0 = λ board. IsOver g.S.Source.left g.S.Source.faults c.args.feed header before board c.args.refusals.now c.next.new.self NoMemory in
     let Q : List Refusal → Type 0 = λ kept. IsOver g.S.Source.left g.S.Source.faults c.args.feed header before c.take_step.new.board kept c.next.new.self NoMemory in
     subst Q (sym c.in-Err-take_step.ensures.kept_before)
-    (subst P (sym c.in-Err-take_step.ensures.unchanged) (over_spilt g.S.Source.left g.S.Source.faults c.args.feed header before c.args.board.now c.args.refusals.now.items c.args.reader.now c.next.new.self c.in-Ok.step was next (sym c.stop_of.ensures ∙ c.in-None.is)))
+    (subst P (sym c.in-Err-take_step.ensures.unchanged) (over_spilt g.S.Source.left g.S.Source.faults c.args.feed header before c.args.board.now c.args.refusals.now c.args.reader.now c.next.new.self c.in-Ok.step was next (sym c.stop_of.ensures ∙ c.in-None.is)))
 
 pub returns-in-Err-clause-stop : goal.returns-in-Err-clause-stop
 returns-in-Err-clause-stop g c = λ header before was.
-    let P : ReaderView _ → Type 0 = λ reader. IsOver g.S.Source.left g.S.Source.faults c.args.feed header before c.args.board.now c.args.refusals.now.items reader NoMemory in
+    let P : ReaderView _ → Type 0 = λ reader. IsOver g.S.Source.left g.S.Source.faults c.args.feed header before c.args.board.now c.args.refusals.now reader NoMemory in
     subst P (sym c.in-Err.ensures.memory)
-    (over_full g.S.Source.left g.S.Source.faults c.args.feed header before c.args.board.now c.args.refusals.now.items c.args.reader.now was)
+    (over_full g.S.Source.left g.S.Source.faults c.args.feed header before c.args.board.now c.args.refusals.now c.args.reader.now was)

@@ -1,0 +1,4 @@
+pub mod Bodies
+pub mod Headless
+pub mod Outcomes
+pub mod Reports
