@@ -12,3 +12,4 @@ pub mod ReportFacts
 pub mod SeenFeeds
 pub mod Judging
 pub mod NoBodies
+pub mod Promised
