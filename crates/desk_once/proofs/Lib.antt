@@ -13,3 +13,4 @@ pub mod SeenFeeds
 pub mod Judging
 pub mod NoBodies
 pub mod Promised
+pub mod Courses

@@ -19,9 +19,10 @@ returns-in_default g c =
       course = λ told h. no_run left faults told c.args.pivots out sink (length c.args.begun.items) w.result.status w.ensures.status
           (nothing_written (g.K.Sink.written c.args.sink.now) (g.K.Sink.faults c.args.sink.now))
           (nothing_read left faults told (length c.args.begun.items) out w.ensures.feeds w.ensures.history);
+      promised = λ never wrong. let seven : 7 ≡ 4 = sym w.ensures.status ∙ wrong in absurd (cc);
     }
 
 pub returns-in-Some : goal.returns-in-Some
 returns-in-Some g c =
     let P : List Header → Type 0 = λ headers. AreFirstTwinBooks (books_of headers) c.in-Some.earlier c.in-Some.later in
-    record { course = λ told h. c.of_one_book.ensures.course told (length c.args.begun.items) c.args.pivots h refl (subst P (c.deref.ensures.value ∙ c.in-Ok.ensures) c.in-Some.ensures.twins) }
+    record { course = λ told h. c.of_one_book.ensures.course told (length c.args.begun.items) c.args.pivots h refl (subst P (c.deref.ensures.value ∙ c.in-Ok.ensures) c.in-Some.ensures.twins); promised = λ never. c.of_one_book.ensures.no_read_fault }
