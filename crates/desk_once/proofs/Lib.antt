@@ -14,3 +14,4 @@ pub mod Judging
 pub mod NoBodies
 pub mod Promised
 pub mod Courses
+pub mod Promises
