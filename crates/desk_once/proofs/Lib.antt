@@ -12,3 +12,6 @@ pub mod ReportFacts
 pub mod SeenFeeds
 pub mod Judging
 pub mod NoBodies
+pub mod Promised
+pub mod Courses
+pub mod Promises

@@ -1,7 +1,8 @@
 //! The bodies of the feeds, read one after another onto the board.
-ghost use Rattle.std.specs.Prelude.{ℕ, List, Option, ◌≡◌, ◌+◌, ◌<◌, ◌≤◌, length, vec_capacity, None, [], MatchBool, ⊤};
+ghost use Rattle.std.specs.Prelude.{ℕ, List, Option, All, ◌≡◌, ◌≢◌, ◌+◌, ◌<◌, ◌≤◌, length, vec_capacity, None, [], MatchBool, ⊤};
 ghost use Rattle.std.specs.VecDeque.{deque_len};
 ghost use Rattle.scan_types.specs.declared.limits.TheConstants.{MOST_FEEDS};
+ghost use Rattle.board_definitions.specs.declared.event.FeedStop.TheVariants as stops;
 ghost use Rattle.report_text.specs.Stops.{is_reported};
 ghost use Rattle.feed_bodies.specs.Bodies.{IsReadyFor};
 ghost use Rattle.desk_opening.specs.Headers.{IsHeaderRead, AreHeadersRead};
@@ -36,6 +37,7 @@ fn read_next<W: Law, S: Source + Drop>(
     requires reader { IsHeaderRead S.left None (length ends.old.items) next.header next.reader }
     ensures next { (told : ℕ → Option (List ℕ)) → IsHeaderRead S.left (told (length ends.old.items)) (length ends.old.items) next.header next.reader →
         IsNextRead S.left S.faults told next.header ends.old.items ends.new.items board.old board.new result }
+    ensures promised { All (λ end. end.stop ≢ stops.ReadFault) ends.old.items → S.never_fails next.reader.source → All (λ end. end.stop ≢ stops.ReadFault) ends.new.items }
     ensures room { vec_capacity ends.old ≤ vec_capacity ends.new }
 {
     let Begun { header, reader } = next;
@@ -60,6 +62,8 @@ pub(crate) fn read_while<W: Law, S: Source + Drop>(
     ensures bodies { (told : ℕ → Option (List ℕ)) → AreReadSoFar S.left S.faults told board.old.fixed.rules ends.old.items begun.old.items board.old.history →
         MatchBool result (AreReadSoFar S.left S.faults told board.old.fixed.rules ends.new.items [] board.new.history)
         (AreCutAt S.left S.faults told ends.new.items begun.new.items board.new.history) }
+    ensures promised { All (λ end. end.stop ≢ stops.ReadFault) ends.old.items → All (λ feed. S.never_fails feed.reader.source) begun.old.items →
+        All (λ end. end.stop ≢ stops.ReadFault) ends.new.items }
     ensures all { MatchBool result (begun.new.items ≡ []) ⊤ }
     ensures fixed { board.new.fixed ≡ board.old.fixed }
     ensures headers { headers_of ends.new.items begun.new.items ≡ headers_of ends.old.items begun.old.items }

@@ -1,9 +1,9 @@
 //! A run over feeds whose headers were read, and are of different books.
-ghost use Rattle.std.specs.Prelude.{ℕ, List, Option, None, [], ◌≡◌, ◌≢◌, ◌≤◌, length, map, AllPairs};
+ghost use Rattle.std.specs.Prelude.{ℕ, List, Option, None, [], ◌≡◌, ◌≢◌, ◌≤◌, length, map, All, AllPairs};
 ghost use Rattle.scan_types.specs.declared.limits.TheConstants.{MOST_FEEDS, MOST_PIVOTS};
 ghost use Rattle.desk_opening.specs.Headers.{AreHeadersRead};
 ghost use Rattle.desk_opening.specs.Twins.{books_of};
-ghost use Rattle.desk_definitions.specs.declared.status.TheConstants.{WANT_OF_MEMORY};
+ghost use Rattle.desk_definitions.specs.declared.status.TheConstants.{NOT_READ, WANT_OF_MEMORY};
 ghost use Rattle.desk_definitions.specs.Seen.{sink_seen};
 ghost use Rattle.desk_once.specs.Outcomes.{RunsSo};
 
@@ -49,6 +49,7 @@ pub(crate) fn with_books<S: Source + Drop, K: Sink>(
     ensures course { (told : ℕ → Option (List ℕ)) → AreHeadersRead S.left told 0 begun.items →
         RunsSo S.left S.faults told (length begun.items) pivots (record { ends = result.feeds.items; history = result.history.items }) result.status
         (sink_seen K.written K.faults sink.old sink.new) }
+    ensures promised { All (λ feed. S.never_fails feed.reader.source) begun.items → result.status ≢ NOT_READ }
 {
     let Ok(mut board) = begin_board(alloc, headers, pivots) else {
         return without_memory(alloc);

@@ -1,10 +1,13 @@
 //! A run from the board that has the bodies of all feeds, on.
-ghost use Rattle.std.specs.Prelude.{ℕ, List, Option, None, ◌≡◌, ◌≤◌, length};
+ghost use Rattle.std.specs.Prelude.{ℕ, List, Option, None, ◌≡◌, ◌≢◌, ◌≤◌, length};
 ghost use Rattle.scan_types.specs.declared.limits.TheConstants.{MOST_FEEDS, MOST_PIVOTS};
+ghost use Rattle.board_definitions.specs.declared.event.FeedStop.TheVariants as stops;
+ghost use Rattle.desk_definitions.specs.declared.status.TheConstants.{NOT_READ};
 ghost use Rattle.desk_definitions.specs.Seen.{sink_seen};
 ghost use Rattle.desk_definitions.specs.Reads.{FeedRead};
 ghost use Rattle.desk_definitions.specs.History.{bodies_of};
 ghost use Rattle.desk_definitions.specs.Course.{HaveBodies};
+ghost use Rattle.desk_definitions.specs.Causes.{NoneStops};
 ghost use Rattle.desk_once.specs.Outcomes.{RunsSo};
 
 use crate::reporting::write_the_report;
@@ -34,6 +37,7 @@ pub(crate) fn finish<S: Source + Drop, K: Sink>(
         HaveBodies S.left S.faults told (length ends.items) ends.items reads board.fixed.rules → board.history ≡ bodies_of 0 ends.items reads →
         RunsSo S.left S.faults told (length ends.items) pivots (record { ends = result.feeds.items; history = result.history.items }) result.status
         (sink_seen K.written K.faults sink.old sink.new) }
+    ensures promised { NoneStops stops.ReadFault ends.items → result.status ≢ NOT_READ }
 {
     let caller = ends.len() as u8 + 1;
     let mut bench = Bench::new(alloc, pivots);

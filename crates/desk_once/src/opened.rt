@@ -1,6 +1,7 @@
 //! A run over opened feeds.
 ghost use Rattle.std.specs.Prelude.{ℕ, List, Option, None, ◌≡◌, ◌≢◌, ◌≤◌, length, map, IfOk, All};
 ghost use Rattle.scan_types.specs.declared.limits.TheConstants.{MOST_FEEDS, MOST_PIVOTS};
+ghost use Rattle.desk_definitions.specs.declared.status.TheConstants.{NOT_READ};
 ghost use Rattle.desk_definitions.specs.Opening.{AreOpened};
 ghost use Rattle.desk_definitions.specs.Seen.{sink_seen};
 ghost use Rattle.desk_opening.specs.Headers.{AreHeadersRead};
@@ -46,6 +47,7 @@ fn with_headers<S: Source + Drop, K: Sink>(
     ensures course { (told : ℕ → Option (List ℕ)) → AreHeadersRead S.left told 0 begun.items →
         RunsSo S.left S.faults told (length begun.items) pivots (record { ends = result.feeds.items; history = result.history.items }) result.status
         (sink_seen K.written K.faults sink.old sink.new) }
+    ensures promised { All (λ feed. S.never_fails feed.reader.source) begun.items → result.status ≢ NOT_READ }
 {
     let Ok(headers) = headers_of(alloc, &begun) else {
         return without_memory(alloc);
@@ -71,6 +73,7 @@ pub(crate) fn with_sources<S: Source + Drop, K: Sink>(
     ensures course { (told : ℕ → Option (List ℕ)) → AreOpened S.left S.faults told 0 sources.items →
         RunsSo S.left S.faults told (length sources.items) pivots (record { ends = result.feeds.items; history = result.history.items }) result.status
         (sink_seen K.written K.faults sink.old sink.new) }
+    ensures promised { All S.never_fails sources.items → result.status ≢ NOT_READ }
 {
     match read_headers(alloc, sources) {
         Ok(begun) => with_headers(alloc, pivots, begun, sink),

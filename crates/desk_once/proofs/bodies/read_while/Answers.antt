@@ -2,6 +2,7 @@ use Rattle.std.proofs.Common.{◌≡◌, ◌∙◌, ℕ, Option, None, is_ok, le
 use Rattle.std.specs.Prelude.{◌∷◌}
 use Rattle.scan_types.specs.declared.rule.VoidRule.{VoidRule}
 use Rattle.desk_once.specs.Bodies.{AreReadSoFar, IsNextRead, headers_of}
+use Rattle.desk_once.proofs.Promises.{promised_on}
 use Rattle.desk_once.proofs.SoFar.{cut_next, popped, same_headers, ready_next, so_far_next}
 use Rattle.desk_once.proofs.bodies.read_while.Goals as goal
 
@@ -25,6 +26,8 @@ loop-next-preserved g c =
       fixed = same ∙ c.loop-next.invariant.fixed;
       headers = sym (same_headers left faults none ends c.read_next.new.ends.items n.end next rest n.ends_are n.header_is) ∙ ap (λ xs. headers_of ends xs) (sym c.in-Some.ensures.items) ∙ c.loop-next.invariant.headers;
       few = omega (arith, ap length n.ends_are, length-append ends (n.end ∷ []), c.loop-next.invariant.few, c.in-Some.ensures.len, ap length c.in-Some.ensures.items);
+      promised = λ none never. promised_on g.S.Source.never_fails ends c.loop-next.begun.items next rest c.read_next.new.ends.items c.in-Some.ensures.items
+          (c.loop-next.invariant.promised none never) c.read_next.ensures.promised;
       room = omega (arith, c.loop-next.invariant.room, c.read_next.ensures.room);
       so_far = λ told h.
           let P : List (Option VoidRule) → Type 0 = λ rules. AreReadSoFar left faults told rules c.read_next.new.ends.items rest c.read_next.new.board.history in
@@ -45,6 +48,11 @@ returns-then-not-read_next-clause-bodies g c =
     let read : (told : ℕ → Option (List ℕ)) → Start told → IsNextRead left faults told next.header ends c.read_next.new.ends.items old c.read_next.new.board false =
         λ told h. c.if-not-read_next.ensures.next told ((so_far told h).others.0) in
     λ told h. cut_next left faults told ends c.read_next.new.ends.items next rest old c.read_next.new.board (so_far told h) (read told h)
+
+pub returns-then-not-read_next-clause-promised : goal.returns-then-not-read_next-clause-promised
+returns-then-not-read_next-clause-promised g c = λ none never.
+    (promised_on g.S.Source.never_fails c.loop-next.ends.items c.loop-next.begun.items c.in-Some.next c.pop_front.new.self.items c.read_next.new.ends.items c.in-Some.ensures.items
+    (c.loop-next.invariant.promised none never) c.read_next.ensures.promised).0
 
 pub returns-then-not-read_next-clause-fixed : goal.returns-then-not-read_next-clause-fixed
 returns-then-not-read_next-clause-fixed g c =

@@ -1,4 +1,6 @@
-use Rattle.std.proofs.Common.{ℕ, List, Option, None, [], ◌≡◌, ◌≤◌, ◌+◌, ◌∙◌, length, map, sym, ap, subst, refl, arith}
+use Rattle.std.proofs.Common.{ℕ, List, Option, None, [], ◌≡◌, ◌≢◌, ◌≤◌, ◌+◌, ◌∙◌, length, map, sym, ap, subst, refl, arith}
+use Rattle.std.specs.Prelude.{All}
+use Rattle.board_definitions.specs.declared.event.FeedStop.TheVariants as stops
 use Rattle.feed_text.specs.declared.header.Header.{Header}
 use Rattle.scan_types.specs.declared.rule.VoidRule.{VoidRule}
 use Rattle.board_definitions.specs.declared.event.Entry.{Entry}
@@ -13,30 +15,26 @@ use Rattle.desk_once.proofs.Starts.{starts, whole_bodies, cut_bodies, nothing_re
 use Rattle.desk_once.proofs.Judging.{no_run, nothing_written}
 use Rattle.desk_once.proofs.books.with_books.Goals as goal
 
-pub returns-in_default : goal.returns-in_default
-returns-in_default g c =
+pub returns-in_default-clause-course : goal.returns-in_default-clause-course
+returns-in_default-clause-course g c =
     let left = g.S.Source.left in
     let faults = g.S.Source.faults in
     let sink = sink_seen g.K.Sink.written g.K.Sink.faults c.args.sink.now c.args.sink.now in
     let out : Outcome g.row.S.Denot = record { ends = c.without_memory.result.feeds.items; history = c.without_memory.result.history.items } in
-    record {
-      course = λ told h. no_run left faults told c.args.pivots out sink (length c.args.begun.items) c.without_memory.result.status c.without_memory.ensures.status
+    λ told h. no_run left faults told c.args.pivots out sink (length c.args.begun.items) c.without_memory.result.status c.without_memory.ensures.status
           (nothing_written (g.K.Sink.written c.args.sink.now) (g.K.Sink.faults c.args.sink.now))
-          (nothing_read left faults told (length c.args.begun.items) out c.without_memory.ensures.feeds c.without_memory.ensures.history);
-    }
+          (nothing_read left faults told (length c.args.begun.items) out c.without_memory.ensures.feeds c.without_memory.ensures.history)
 
-pub returns-in_default-with_capacity : goal.returns-in_default-with_capacity
-returns-in_default-with_capacity g c =
+pub returns-in_default-with_capacity-clause-course : goal.returns-in_default-with_capacity-clause-course
+returns-in_default-with_capacity-clause-course g c =
     let left = g.S.Source.left in
     let faults = g.S.Source.faults in
     let w = c.without_memory-in_default-with_capacity in
     let sink = sink_seen g.K.Sink.written g.K.Sink.faults c.args.sink.now c.args.sink.now in
     let out : Outcome g.row.S.Denot = record { ends = w.result.feeds.items; history = w.result.history.items } in
-    record {
-      course = λ told h. no_run left faults told c.args.pivots out sink (length c.args.begun.items) w.result.status w.ensures.status
+    λ told h. no_run left faults told c.args.pivots out sink (length c.args.begun.items) w.result.status w.ensures.status
           (nothing_written (g.K.Sink.written c.args.sink.now) (g.K.Sink.faults c.args.sink.now))
-          (nothing_read left faults told (length c.args.begun.items) out w.ensures.feeds w.ensures.history);
-    }
+          (nothing_read left faults told (length c.args.begun.items) out w.ensures.feeds w.ensures.history)
 
 pub read_while-requires-clause-so_far : goal.read_while-requires-clause-so_far
 read_while-requires-clause-so_far g c =
@@ -48,8 +46,8 @@ read_while-requires-clause-so_far g c =
     let Q : List Entry → Type 0 = λ history. AreReadSoFar left faults told rules [] c.args.begun.items history in
     subst P (sym c.in-Ok-with_capacity.ensures.items) (subst Q (sym c.in-Ok.ensures.history) (starts left faults told c.args.begun.items c.args.headers.now rules c.requires.read c.requires.headers c.in-Ok.ensures.rules))
 
-pub returns-then-not-read_while : goal.returns-then-not-read_while
-returns-then-not-read_while g c =
+pub returns-then-not-read_while-clause-course : goal.returns-then-not-read_while-clause-course
+returns-then-not-read_while-clause-course g c =
     let left = g.S.Source.left in
     let faults = g.S.Source.faults in
     let rules = c.in-Ok.board.fixed.rules in
@@ -62,14 +60,12 @@ returns-then-not-read_while g c =
             let P : List (FeedEnd g.row.S.Denot) → Type 0 = λ ends. AreReadSoFar left faults told rules ends c.args.begun.items c.in-Ok.board.history in
             let Q : List Entry → Type 0 = λ history. AreReadSoFar left faults told rules [] c.args.begun.items history in
             subst P (sym c.in-Ok-with_capacity.ensures.items) (subst Q (sym c.in-Ok.ensures.history) (starts left faults told c.args.begun.items c.args.headers.now rules read c.requires.headers c.in-Ok.ensures.rules)) in
-    record {
-      course = λ told h.
+    λ told h.
           let H : List Entry → Type 0 = λ history. AreCutAt left faults told ends c.read_while.new.begun.items history in
           no_run left faults told c.args.pivots out sink (length c.args.begun.items) 7 refl
               (nothing_written (g.K.Sink.written c.args.sink.now) (g.K.Sink.faults c.args.sink.now))
               (cut_bodies left faults told (length c.args.begun.items) out c.read_while.new.begun.items few
-              (subst H (sym c.into_history.ensures.value) (c.if-not-read_while.ensures.bodies told (start told h))));
-    }
+              (subst H (sym c.into_history.ensures.value) (c.if-not-read_while.ensures.bodies told (start told h))))
 
 pub finish-requires-clause-bodies : goal.finish-requires-clause-bodies
 finish-requires-clause-bodies g c =
@@ -96,8 +92,8 @@ finish-requires-clause-bodies g c =
     let s = read (λ _. None) c.requires.read in
     (s.reads, bodies (λ _. None) c.requires.read, s.history_is)
 
-pub returns : goal.returns
-returns g c =
+pub returns-clause-course : goal.returns-clause-course
+returns-clause-course g c =
     let left = g.S.Source.left in
     let faults = g.S.Source.faults in
     let rules = c.in-Ok.board.fixed.rules in
@@ -120,10 +116,14 @@ returns g c =
             subst P rules_same (whole_bodies left faults told ends begun headers rules c.read_while.new.board.history c.requires.headers c.in-Ok.ensures.rules c.requires.different same (read told h)) in
     let count : length ends ≡ length begun =
         omega (arith, c.read_while.ensures.few, ap length c.in-Ok-with_capacity.ensures.items, ap length c.if-not-read_while.ensures.all) in
-    record {
-      course = λ told h.
+    λ told h.
           let s = read told h in
           let out : Outcome g.row.S.Denot = record { ends = c.finish.result.feeds.items; history = c.finish.result.history.items } in
           let P : ℕ → Type 0 = λ n. RunsSo left faults told n c.args.pivots out c.finish.result.status (sink_seen g.K.Sink.written g.K.Sink.faults c.args.sink.now c.finish.new.sink) in
-          subst P count (c.finish.ensures.course told s.reads (bodies told h) s.history_is);
-    }
+          subst P count (c.finish.ensures.course told s.reads (bodies told h) s.history_is)
+
+pub returns-clause-promised : goal.returns-clause-promised
+returns-clause-promised g c = λ never.
+    let P : List (FeedEnd g.row.S.Denot) → Type 0 = λ ends. All (λ end. end.stop ≢ stops.ReadFault) ends in
+    let none : P [] = λ k d h. absurd (omega (arith, h)) in
+    c.finish.ensures.promised (c.read_while.ensures.promised (subst P (sym c.in-Ok-with_capacity.ensures.items) none) never)

@@ -17,6 +17,7 @@ use Rattle.desk_definitions.specs.Course.{HaveBodies, Outcome, WritesNothing, st
 use Rattle.desk_once.specs.Outcomes.{RunsSo}
 use Rattle.desk_once.proofs.Judging.{unpinned, nothing_written, stopped_judging, reported, moved_all, moved_part, given_back}
 use Rattle.desk_once.proofs.SeenFeeds.{seen_and_held, judged_findings}
+use Rattle.desk_once.proofs.Promised.{report_promised}
 use Rattle.desk_once.proofs.finish.finish.Goals as goal
 
 pub judge_due-requires-clause-no_pin : goal.judge_due-requires-clause-no_pin
@@ -37,6 +38,7 @@ returns-in_default g c =
       course = λ told reads bodies start. stopped_judging left faults told c.args.pivots out sink reads rules bodies (nothing_written (g.K.Sink.written c.args.sink.now) (g.K.Sink.faults c.args.sink.now))
           (moved_part rules c.new-bench.result c.args.pivots (c.len.result + 1) (length ends + 1) c.args.board.history (bodies_of 0 ends reads) c.judge_due.new.board.history c.into_history.result.items
           c.new-bench.ensures caller start (sym c.into_history.ensures.value) c.in_default.ensures.stopped);
+      promised = λ none same. absurd (cc);
     }
 
 pub write_the_report-status-requires-clause-findings : goal.write_the_report-status-requires-clause-findings
@@ -91,4 +93,16 @@ returns g c =
           let written = w.ensures.written reads seen (subst A (sym value) held.1) (subst H (ap (λ f. f.rules) (sym c.judge_due.ensures.fixed_stays)) held.2) in
           let whole = moved_all rules c.args.pivots c.args.pivots (length ends + 1) (length ends + 1) (bodies_of 0 ends reads) (bodies_of 0 ends reads) after c.into_history-2.result.items refl refl refl (sym c.into_history-2.ensures.value) judged in
           subst E (sym back) (reported left faults told c.args.pivots out sink w.result reads rules seen bodies whole held.1 (subst W value written));
+      promised = λ none.
+          let reads = c.requires.bodies.0 in
+          let bodies = c.requires.bodies.1 in
+          let judged = moved_all rules c.new-bench.result c.args.pivots (c.len.result + 1) (length ends + 1) c.args.board.history (bodies_of 0 ends reads) after after c.new-bench.ensures caller c.requires.bodies.2 refl c.in-Ok.ensures.judged in
+          let held = seen_and_held left faults (λ _. None) rules (findings_with c.args.pivots) (length ends + 1) ends reads after bodies.read bodies.headers bodies.stopped bodies.rules_are judged in
+          let seen = held.0 in
+          let A : List (FeedEnd g.row.S.Denot) → Type 0 = λ xs. AreSeenAs xs reads seen in
+          let H : List (Option VoidRule) → Type 0 = λ rules. HoldsLinesOf seen rules after in
+          let W : List (FeedEnd g.row.S.Denot) → Type 0 = λ xs.
+              ((due : Due) × (due.status ≡ status_of xs) × IsReport c.args.pivots seen due.text × IsWritten due w.result sink) ⊎ ((w.result ≡ WANT_OF_MEMORY) × WritesNothing sink) in
+          let written = w.ensures.written reads seen (subst A (sym value) held.1) (subst H (ap (λ f. f.rules) (sym c.judge_due.ensures.fixed_stays)) held.2) in
+          report_promised ends c.args.pivots w.result seen sink none (subst W value written);
     }
