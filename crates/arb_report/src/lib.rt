@@ -1,21 +1,17 @@
-//! The report as a text.
+//! Writing the report of any feeds: `write_report` writes it line by line, each line from a text of fixed room. It takes no memory.
 //!
-//! - `appends`: texts, fields and numbers at the end of a text that grows.
-//! - `words`: odds, lines, selections, rules and outcomes as fields.
-//! - `findings`: findings as fields.
-//! - `lines`: the lines of feeds and of matches.
-//! - `report`: the whole text.
+//! - `writing`: the report, its feeds and its matches. `lines`: each line of them. `words`: the words that stand in a line.
 //!
-//! The text is one `Vec` to which each part is appended once: nothing is formatted aside.
+//! The types and the text itself stand in `report_definitions`; the types are given on here.
 #![tactic(auto)]
 
-mod appends;
-mod findings;
 mod lines;
-mod report;
 mod words;
+mod writing;
 
-pub use report::report_text;
+pub use feed_definitions::Refusals;
+pub use report_definitions::{FeedPart, FeedParts, MatchPart, MatchParts, Report};
+pub use writing::write_report;
 
 #[cfg(test)]
 mod tests;

@@ -1,83 +1,82 @@
-ghost use Rattle.std.specs.Prelude.{◌≡◌, ◌++◌, OnOk};
-ghost use Rattle.std.specs.List.{flat_map, enumerate_from};
-ghost use Rattle.std.specs.Prelude.{map};
-ghost use Rattle.report_definitions.specs.Report.{offer_line, match_lines, feed_line};
-ghost use Rattle.report_definitions.specs.Standing.{feed_part};
+//! Each line of a report, with its line feed.
+ghost use Rattle.std.specs.Prelude.{◌≡◌};
+ghost use Rattle.report_definitions.specs.Report.{feed_line, refusal_line, offer_line, match_line, pivots_line};
 
-use crate::appends::{put, put_field, put_number_field};
-use crate::findings::put_finding;
-use crate::words::{put_odds, put_selection, rule_word};
-use report_definitions::{MatchPart, ReadFeed};
-use scan_types::{Offer, WantOfMemory};
+use crate::words::{
+    cause_word, push_field, push_number, push_selection, push_word, rule_word, stop_word,
+};
+use feed_definitions::Refusal;
+use odds_fixed::{TextBuf, put_odds};
+use report_definitions::{FeedPart, MatchPart};
+use scan_types::Offer;
 
-/// Appends the line of a feed.
-fn put_feed(out: &mut Vec<u8>, number: u64, feed: &ReadFeed) -> Result<(), WantOfMemory>
-    ensures { OnOk result (out.new.items ≡ out.old.items ++ feed_line (number, feed_part feed.now)) }
+// The line of the pivots.
+pub(crate) fn pivots_line(pivots: u32) -> TextBuf
+    ensures { result ≡ pivots_line pivots }
 {
-    put(out, b"feed")?;
-    put_number_field(out, number)?;
-    put_field(out, feed.header.book.as_bytes())?;
-    put_field(out, rule_word(feed.header.rule))?;
-    put(out, b" lines")?;
-    put_number_field(out, u64::from(feed.lines))?;
-    put(out, b" refused 0 end\n")
+    let mut out = TextBuf::new();
+    push_word(&mut out, b"pivots");
+    push_number(&mut out, pivots as u64);
+    push_word(&mut out, b"\n");
+    out
 }
 
-/// Appends the line of each feed.
-pub(crate) fn put_feeds(out: &mut Vec<u8>, feeds: &[ReadFeed]) -> Result<(), WantOfMemory>
-    ensures { OnOk result (out.new.items ≡ out.old.items ++ flat_map feed_line (enumerate_from 0 (map feed_part feeds.now))) }
+// The line of a feed.
+pub(crate) fn feed_line(number: u64, feed: &FeedPart) -> TextBuf
+    ensures { result ≡ feed_line number feed.now }
 {
-    for (number, feed) in feeds.iter().enumerate() {
-        put_feed(out, number as u64, feed)?;
-    }
-    Ok(())
+    let mut out = TextBuf::new();
+    push_word(&mut out, b"feed");
+    push_number(&mut out, number);
+    push_field(&mut out, feed.header.book.as_bytes());
+    push_field(&mut out, rule_word(feed.header.rule));
+    push_word(&mut out, b" lines");
+    push_number(&mut out, feed.lines as u64);
+    push_word(&mut out, b" refused");
+    push_number(&mut out, feed.refusals.items().len() as u64);
+    push_field(&mut out, stop_word(feed.stop));
+    push_word(&mut out, b"\n");
+    out
 }
 
-/// Appends the line of an offer.
-fn put_offer(out: &mut Vec<u8>, offer: &Offer) -> Result<(), WantOfMemory>
-    ensures { OnOk result (out.new.items ≡ out.old.items ++ offer_line offer.now) }
+// The line of a refused line of a feed.
+pub(crate) fn refusal_line(number: u64, refusal: &Refusal) -> TextBuf
+    ensures { result ≡ refusal_line number refusal.now }
 {
-    put(out, b"offer")?;
-    put_number_field(out, u64::from(offer.feed))?;
-    put_selection(out, offer.selection)?;
-    put(out, b" ")?;
-    put_odds(out, offer.odds)?;
-    put_number_field(out, u64::from(offer.limit))?;
-    put(out, b"\n")
+    let mut out = TextBuf::new();
+    push_word(&mut out, b"refused");
+    push_number(&mut out, number);
+    push_number(&mut out, refusal.place.line as u64);
+    push_number(&mut out, refusal.place.column as u64);
+    push_field(&mut out, cause_word(refusal.cause));
+    push_word(&mut out, b"\n");
+    out
 }
 
-/// Appends the line of each offer.
-fn put_offers(out: &mut Vec<u8>, offers: &[Offer]) -> Result<(), WantOfMemory>
-    ensures { OnOk result (out.new.items ≡ out.old.items ++ flat_map offer_line offers.now) }
+// The line of an offer.
+pub(crate) fn offer_line(offer: &Offer) -> TextBuf
+    ensures { result ≡ offer_line offer.now }
 {
-    for offer in offers {
-        put_offer(out, offer)?;
-    }
-    Ok(())
+    let mut out = TextBuf::new();
+    push_word(&mut out, b"offer");
+    push_number(&mut out, offer.feed as u64);
+    push_selection(&mut out, offer.selection);
+    push_word(&mut out, b" ");
+    put_odds(&mut out, offer.odds);
+    push_number(&mut out, offer.limit as u64);
+    push_word(&mut out, b"\n");
+    out
 }
 
-/// Appends the lines of a match: its name, its offers and its finding.
-fn put_match(out: &mut Vec<u8>, part: &MatchPart) -> Result<(), WantOfMemory>
-    ensures { OnOk result (out.new.items ≡ out.old.items ++ match_lines part.now) }
+// The line of a match.
+pub(crate) fn match_line(part: &MatchPart) -> TextBuf
+    ensures { result ≡ match_line part.now }
 {
-    let offers = part.sheet.offers();
-    put(out, b"match")?;
-    put_field(out, part.match_name.as_bytes())?;
-    put(out, b" offers")?;
-    put_number_field(out, offers.len() as u64)?;
-    put(out, b"\n")?;
-    put_offers(out, offers)?;
-    put(out, b"finding")?;
-    put_finding(out, &part.finding)?;
-    put(out, b"\n")
-}
-
-/// Appends the lines of each match.
-pub(crate) fn put_matches(out: &mut Vec<u8>, matches: &[MatchPart]) -> Result<(), WantOfMemory>
-    ensures { OnOk result (out.new.items ≡ out.old.items ++ flat_map match_lines matches.now) }
-{
-    for part in matches {
-        put_match(out, part)?;
-    }
-    Ok(())
+    let mut out = TextBuf::new();
+    push_word(&mut out, b"match");
+    push_field(&mut out, part.match_name.as_bytes());
+    push_word(&mut out, b" offers");
+    push_number(&mut out, part.sheet.offers().len() as u64);
+    push_word(&mut out, b"\n");
+    out
 }

@@ -1,80 +1,80 @@
-ghost use Rattle.std.specs.Prelude.{◌≡◌, ◌∷◌, ◌++◌, OnOk, decimal};
-ghost use Rattle.report_definitions.specs.Words.{last_digit, odds_text, quarters_text, handicap_text, selection_fields, rule_text};
-ghost use Rattle.finding_definitions.specs.Text.{outcome_fields};
-ghost use Rattle.arb_report.specs.Spaced.{spaced};
+//! The words of a report, and fields at the end of a line.
+ghost use Rattle.std.specs.Prelude.{◌≡◌, ◌≤◌, ◌+◌, ◌∷◌, ◌++◌, length, decimal};
+ghost use Rattle.certificates.specs.Written.{spaced};
+ghost use Rattle.odds_fixed.specs.declared.text_buf.TheConstants.{TEXT_BYTES};
+ghost use Rattle.report_definitions.specs.Words.{rule_text, stop_text, cause_text, selection_fields};
 
-use crate::appends::{put, put_number, put_number_field};
-use scan_types::{HandicapLine, Odds, Outcome, Selection, VoidRule, WantOfMemory};
+use board_definitions::FeedStop;
+use feed_definitions::Cause;
+use odds_fixed::{TextBuf, put_handicap, put_number, put_total};
+use scan_types::{Selection, VoidRule};
 
-/// The last decimal digit of a number, as text.
-fn digit(number: u32) -> u8
-    ensures { result ≡ last_digit number }
+// Appends a text.
+pub(crate) fn push_word(out: &mut TextBuf, word: &[u8])
+    requires { length out.old + length word.now ≤ TEXT_BYTES }
+    ensures value { out.new ≡ out.old ++ word.now }
+    ensures short { length out.new ≡ length out.old + length word.now }
 {
-    b'0' + (number % 10) as u8
+    out.push_bytes(word);
 }
 
-/// Appends odds with exactly three decimals.
-pub(crate) fn put_odds(out: &mut Vec<u8>, odds: Odds) -> Result<(), WantOfMemory>
-    ensures { OnOk result (out.new.items ≡ out.old.items ++ odds_text odds.thousandths) }
+// Appends a field after a space.
+pub(crate) fn push_field(out: &mut TextBuf, field: &[u8])
+    requires { length out.old + (1 + length field.now) ≤ TEXT_BYTES }
+    ensures value { out.new ≡ out.old ++ (32 ∷ field.now) }
+    ensures short { length out.new ≡ length out.old + (1 + length field.now) }
 {
-    let n = odds.thousandths;
-    put_number(out, u64::from(n / 1_000))?;
-    put(out, &[b'.', digit(n / 100), digit(n / 10), digit(n)])
+    push_word(out, b" ");
+    push_word(out, field);
 }
 
-/// Appends quarters of a goal with exactly two decimals.
-fn put_quarters(out: &mut Vec<u8>, quarters: u8) -> Result<(), WantOfMemory>
-    ensures { OnOk result (out.new.items ≡ out.old.items ++ quarters_text quarters) }
+// Appends a number after a space.
+pub(crate) fn push_number(out: &mut TextBuf, number: u64)
+    requires { length out.old + 65 ≤ TEXT_BYTES }
+    ensures value { out.new ≡ out.old ++ (32 ∷ decimal number) }
+    ensures short { length out.new ≤ length out.old + 65 }
 {
-    let hundredths = 25 * u32::from(quarters % 4);
-    put_number(out, u64::from(quarters / 4))?;
-    put(out, &[b'.', digit(hundredths / 10), digit(hundredths)])
+    push_word(out, b" ");
+    put_number(out, i128::from(number));
 }
 
-/// Appends a handicap line, with a minus sign below zero.
-fn put_handicap(out: &mut Vec<u8>, line: HandicapLine) -> Result<(), WantOfMemory>
-    ensures { OnOk result (out.new.items ≡ out.old.items ++ handicap_text line.quarters) }
-{
-    if line.quarters < 0 {
-        out.push(b'-')?;
-    }
-    put_quarters(out, line.quarters.unsigned_abs())
-}
-
-/// Appends the market, the line where it has one, and the side, each after a space.
-pub(crate) fn put_selection(out: &mut Vec<u8>, selection: Selection) -> Result<(), WantOfMemory>
-    ensures { OnOk result (out.new.items ≡ out.old.items ++ spaced (selection_fields selection)) }
+// Appends a selection: its market, its line if the market has lines, and its side, each after a space.
+pub(crate) fn push_selection(out: &mut TextBuf, selection: Selection)
+    requires { length out.old + 80 ≤ TEXT_BYTES }
+    ensures value { out.new ≡ out.old ++ spaced (selection_fields selection) }
+    ensures short { length out.new ≤ length out.old + 80 }
 {
     match selection {
-        Selection::Home => put(out, b" 1x2 home"),
-        Selection::Draw => put(out, b" 1x2 draw"),
-        Selection::Away => put(out, b" 1x2 away"),
+        Selection::Home => push_word(out, b" 1x2 home"),
+        Selection::Draw => push_word(out, b" 1x2 draw"),
+        Selection::Away => push_word(out, b" 1x2 away"),
         Selection::HandicapHome(line) => {
-            put(out, b" ah ")?;
-            put_handicap(out, line)?;
-            put(out, b" home")
+            push_word(out, b" ah ");
+            put_handicap(out, line);
+            push_word(out, b" home");
         }
         Selection::HandicapAway(line) => {
-            put(out, b" ah ")?;
-            put_handicap(out, line)?;
-            put(out, b" away")
+            push_word(out, b" ah ");
+            put_handicap(out, line);
+            push_word(out, b" away");
         }
         Selection::Over(line) => {
-            put(out, b" total ")?;
-            put_quarters(out, line.quarters)?;
-            put(out, b" over")
+            push_word(out, b" total ");
+            put_total(out, line);
+            push_word(out, b" over");
         }
         Selection::Under(line) => {
-            put(out, b" total ")?;
-            put_quarters(out, line.quarters)?;
-            put(out, b" under")
+            push_word(out, b" total ");
+            put_total(out, line);
+            push_word(out, b" under");
         }
     }
 }
 
-/// The word of a rule on abandoned matches.
+// The word of a rule on abandoned matches.
 pub(crate) fn rule_word(rule: VoidRule) -> &'static [u8]
-    ensures { result.now ≡ rule_text rule }
+    ensures value { result.now ≡ rule_text rule }
+    ensures short { length result.now ≤ 7 }
 {
     match rule {
         VoidRule::Void => b"void",
@@ -83,21 +83,40 @@ pub(crate) fn rule_word(rule: VoidRule) -> &'static [u8]
     }
 }
 
-/// Appends a word and the goals of the home and of the away side, each number after a space.
-fn put_goals(out: &mut Vec<u8>, word: &[u8], home: u64, away: u64) -> Result<(), WantOfMemory>
-    ensures { OnOk result (out.new.items ≡ ((out.old.items ++ word.now) ++ 32 ∷ decimal home) ++ 32 ∷ decimal away) }
+// The word of how a feed ended.
+pub(crate) fn stop_word(stop: FeedStop) -> &'static [u8]
+    ensures value { result.now ≡ stop_text stop }
+    ensures short { length result.now ≤ 6 }
 {
-    put(out, word)?;
-    put_number_field(out, home)?;
-    put_number_field(out, away)
+    match stop {
+        FeedStop::End => b"end",
+        FeedStop::Cut => b"cut",
+        FeedStop::ReadFault => b"fault",
+        FeedStop::NoMemory => b"memory",
+        FeedStop::BadHeader => b"",
+    }
 }
 
-/// Appends how a match ends and its goals, each after a space.
-pub(crate) fn put_outcome(out: &mut Vec<u8>, outcome: Outcome) -> Result<(), WantOfMemory>
-    ensures { OnOk result (out.new.items ≡ out.old.items ++ spaced (outcome_fields outcome)) }
+// The word of why a line was refused.
+pub(crate) fn cause_word(cause: Cause) -> &'static [u8]
+    ensures value { result.now ≡ cause_text cause }
+    ensures short { length result.now ≤ 14 }
 {
-    match outcome {
-        Outcome::Full(home, away) => put_goals(out, b" full", home, away),
-        Outcome::Abandoned(home, away) => put_goals(out, b" abandoned", home, away),
+    match cause {
+        Cause::Missing => b"Missing",
+        Cause::Extra => b"Extra",
+        Cause::UnknownWord => b"UnknownWord",
+        Cause::BadName => b"BadName",
+        Cause::BadLine => b"BadLine",
+        Cause::LineRange => b"LineRange",
+        Cause::BadOdds => b"BadOdds",
+        Cause::OddsRange => b"OddsRange",
+        Cause::BadLimit => b"BadLimit",
+        Cause::LimitRange => b"LimitRange",
+        Cause::TooLong => b"TooLong",
+        Cause::NotAscii => b"NotAscii",
+        Cause::TooManyMatches => b"TooManyMatches",
+        Cause::TooManyOffers => b"TooManyOffers",
+        Cause::NotQuoted => b"NotQuoted",
     }
 }

@@ -2,8 +2,8 @@
 #![tactic(auto)]
 
 use desk_io::{FileOpener, OutSink};
-use desk_program::exit_code;
-use desk_program::status::WANT_OF_MEMORY;
+use scan_desk::exit_code;
+use scan_desk::status::WANT_OF_MEMORY;
 use std::alloc::AllocError;
 use std::process::ExitCode;
 use std::rt::Env;

@@ -3,14 +3,14 @@ use Rattle.std.specs.Prelude.{ℕ, ◌≡◌, ◌<◌, ◌≤◌, ◌+◌, ◌�
 use Rattle.std.specs.List.{list_any}
 use Rattle.std.specs.Io.KnownBytes.{Keeps}
 use Rattle.scan_types.specs.declared.rule.VoidRule.{VoidRule}
-use Rattle.feed_text.specs.declared.cause.Refusal.{Refusal}
-use Rattle.feed_text.specs.declared.step.Step.TheVariants as step
+use Rattle.feed_definitions.specs.declared.cause.Refusal.{Refusal}
+use Rattle.feed_definitions.specs.declared.step.Step.TheVariants as step
 use Rattle.board_definitions.specs.declared.event.Entry.{Entry}
 use Rattle.board_definitions.specs.declared.event.FeedStop.{FeedStop}
 use Rattle.board_definitions.specs.declared.event.FeedStop.TheVariants as stops
 use Rattle.board_definitions.specs.Entries as entries
-use Rattle.report_text.specs.Seen.{SeenFeed}
-use Rattle.report_text.specs.Report.{IsReport}
+use Rattle.report_definitions.specs.Seen.{SeenFeed}
+use Rattle.report_definitions.specs.Report.{IsReport}
 use Rattle.desk_definitions.specs.declared.feed_end.FeedEnd.{FeedEnd}
 use Rattle.desk_definitions.specs.declared.status.TheConstants.{DONE, NOT_OPENED, NOT_READ, BAD_HEADER, WANT_OF_MEMORY, CUT}
 use Rattle.desk_definitions.specs.Texts.{cannot_be_opened, cannot_be_read, is_no_header, have_one_name}

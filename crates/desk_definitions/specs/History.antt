@@ -2,8 +2,8 @@
 use Rattle.std.specs.Prelude.{ℕ, ◌≡◌, ◌+◌, List, [], ◌∷◌, ◌++◌}
 use Rattle.scan_types.specs.declared.offer.Offer.{Offer}
 use Rattle.finding_definitions.specs.declared.finding.Finding.{Finding}
-use Rattle.feed_text.specs.declared.accepted.Accepted.{Accepted}
-use Rattle.feed_text.specs.Feed.{accepted_in}
+use Rattle.feed_definitions.specs.declared.accepted.Accepted.{Accepted}
+use Rattle.feed_definitions.specs.Feed.{accepted_in}
 use Rattle.judging_definitions.specs.ExactFinding.{IsFindingOf}
 use Rattle.board_definitions.specs.declared.event.Entry.{Entry}
 use Rattle.board_definitions.specs.declared.event.FeedStop.TheVariants as stops

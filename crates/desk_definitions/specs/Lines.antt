@@ -1,8 +1,8 @@
 -- The entries that the accepted lines of a feed become on the board.
 use Rattle.std.specs.Prelude.{ℕ, ◌+◌, List, [], ◌∷◌, ◌++◌, map}
-use Rattle.feed_text.specs.declared.accepted.Accepted.{Accepted}
-use Rattle.feed_text.specs.declared.accepted.Change.{Change}
-use Rattle.feed_text.specs.declared.accepted.Change.TheVariants.{Quote, Withdraw}
+use Rattle.feed_definitions.specs.declared.accepted.Accepted.{Accepted}
+use Rattle.feed_definitions.specs.declared.accepted.Change.{Change}
+use Rattle.feed_definitions.specs.declared.accepted.Change.TheVariants.{Quote, Withdraw}
 use Rattle.board_definitions.specs.declared.key.Key.{Key}
 use Rattle.board_definitions.specs.declared.event.Event.{Event}
 use Rattle.board_definitions.specs.declared.event.Event.TheVariants.{Quoted, Withdrawn, Ended}

@@ -1,13 +1,13 @@
 -- The feeds of a run as they were read, one after another.
 use Rattle.std.specs.Prelude.{ℕ, ◌≡◌, ◌≢◌, ◌<◌, ◌+◌, List, [], ◌∷◌, Option, Some, option_map, option_and_then, slice_get, IsTrue, All, AllPairs}
 use Rattle.scan_types.specs.declared.rule.VoidRule.{VoidRule}
-use Rattle.feed_text.specs.declared.header.Header.{Header}
-use Rattle.feed_text.specs.declared.step.Step.{Step}
-use Rattle.feed_text.specs.declared.step.Step.TheVariants as step
-use Rattle.feed_text.specs.Feed.{accepted_in}
+use Rattle.feed_definitions.specs.declared.header.Header.{Header}
+use Rattle.feed_definitions.specs.declared.step.Step.{Step}
+use Rattle.feed_definitions.specs.declared.step.Step.TheVariants as step
+use Rattle.feed_definitions.specs.Feed.{accepted_in}
 use Rattle.board_definitions.specs.declared.event.FeedStop.TheVariants as stops
-use Rattle.report_text.specs.Stops.{is_reported}
-use Rattle.report_text.specs.Seen.{SeenFeed}
+use Rattle.report_definitions.specs.Stops.{is_reported}
+use Rattle.report_definitions.specs.Seen.{SeenFeed}
 use Rattle.desk_definitions.specs.declared.feed_end.FeedEnd.{FeedEnd}
 use Rattle.desk_definitions.specs.Ends.{IsFirstLineClear, IsReadSo}
 

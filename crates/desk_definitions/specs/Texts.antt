@@ -1,7 +1,7 @@
 -- The error lines. Each is the whole text of its status.
 use Rattle.std.specs.Prelude.{ℕ, List, ◌++◌, codes, decimal}
-use Rattle.feed_text.specs.declared.cause.Cause.{Cause}
-use Rattle.report_text.specs.Words.{cause_text}
+use Rattle.feed_definitions.specs.declared.cause.Cause.{Cause}
+use Rattle.report_definitions.specs.Words.{cause_text}
 
 abbrev pub no_command : List ℕ
 no_command = codes "error: the words are no command\n"

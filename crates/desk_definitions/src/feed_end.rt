@@ -1,5 +1,5 @@
 use board_definitions::FeedStop;
-use feed_text::{Header, Refusals};
+use feed_definitions::{Header, Refusals};
 
 /// A feed that was begun, as it was left.
 #[derive(Drop)]

@@ -3,13 +3,13 @@ use Rattle.std.proofs.Common.{◌≡◌, ◌≢◌, ℕ, ◌+◌, Bool, true, fa
 use Rattle.std.specs.Prelude.{IsTrue}
 use Rattle.std.proofs.KnownBytes.{Consumes-trans}
 use Rattle.std.specs.Io.KnownBytes.{Consumes}
-use Rattle.feed_text.specs.declared.accepted.Accepted.{Accepted}
-use Rattle.feed_text.specs.declared.header.Header.{Header}
-use Rattle.feed_text.specs.Feed.{accepted_in}
-use Rattle.feed_reader.specs.Reader.{ReaderView}
+use Rattle.feed_definitions.specs.declared.accepted.Accepted.{Accepted}
+use Rattle.feed_definitions.specs.declared.header.Header.{Header}
+use Rattle.feed_definitions.specs.Feed.{accepted_in}
+use Rattle.feed_lines.specs.Reader.{ReaderView}
 use Rattle.board_definitions.specs.declared.event.FeedStop.{FeedStop}
 use Rattle.board_definitions.specs.declared.event.FeedStop.TheVariants as stops
-use Rattle.report_text.specs.Stops.{is_reported}
+use Rattle.report_definitions.specs.Stops.{is_reported}
 use Rattle.quote_board.specs.Views.{BoardView}
 use Rattle.feed_bodies.specs.Bodies.{ArePut, IsBodyRead}
 use Rattle.desk_opening.specs.Headers.{IsHeaderRead}

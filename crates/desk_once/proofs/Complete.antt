@@ -5,15 +5,15 @@ use Rattle.std.specs.Io.KnownBytes.{Consumes}
 use Rattle.std.proofs.lemmas.Bool.{cases_lt}
 use Rattle.outside_definitions.specs.Faults.{Rose}
 use Rattle.outside_definitions.specs.Opener.{Told, times}
-use Rattle.feed_text.specs.declared.step.Step.{Step}
-use Rattle.feed_text.specs.declared.step.Step.TheVariants as step
-use Rattle.feed_text.specs.Feed.{steps}
+use Rattle.feed_definitions.specs.declared.step.Step.{Step}
+use Rattle.feed_definitions.specs.declared.step.Step.TheVariants as step
+use Rattle.feed_definitions.specs.Feed.{steps}
 use Rattle.board_definitions.specs.declared.event.FeedStop.{FeedStop}
 use Rattle.board_definitions.specs.declared.event.FeedStop.TheVariants as stops
 use Rattle.desk_definitions.specs.declared.feed_end.FeedEnd.{FeedEnd}
 use Rattle.desk_definitions.specs.Seen.{OpenerSeen, SinkSeen, Due}
 use Rattle.desk_definitions.specs.Opening.{LacksSource, told_bytes}
-use Rattle.feed_text.specs.declared.cause.Refusal.{Refusal}
+use Rattle.feed_definitions.specs.declared.cause.Refusal.{Refusal}
 use Rattle.desk_definitions.specs.Ends.{IsFirstLineClear, IsReadSo, IsStopOf, header_in}
 use Rattle.desk_definitions.specs.Reads.{FeedRead, AreBegun, AreFirstTwins, AreReadSo, IsBegun, book_of}
 use Rattle.desk_definitions.specs.Course.{Outcome, IsCourse, IsDueForHeader, HasNoHeader, HasReport, status_of}

@@ -5,16 +5,16 @@ use Rattle.std.specs.List.{cons_option, filter_map, list_any}
 use Rattle.std.proofs.lemmas.Bool.Decides.{nat_tests}
 use Rattle.std.proofs.lemmas.List.Elements.{filter_map-append}
 use Rattle.std.proofs.lemmas.List.Folds.{list_any-append}
-use Rattle.feed_text.specs.declared.accepted.Accepted.{Accepted}
-use Rattle.feed_text.specs.declared.accepted.Change.{Change}
-use Rattle.feed_text.specs.declared.accepted.Change.TheVariants.{Quote, Withdraw}
-use Rattle.feed_text.specs.Feed.{accepted_in}
+use Rattle.feed_definitions.specs.declared.accepted.Accepted.{Accepted}
+use Rattle.feed_definitions.specs.declared.accepted.Change.{Change}
+use Rattle.feed_definitions.specs.declared.accepted.Change.TheVariants.{Quote, Withdraw}
+use Rattle.feed_definitions.specs.Feed.{accepted_in}
 use Rattle.board_definitions.specs.declared.event.Event.{Event}
 use Rattle.board_definitions.specs.declared.event.Entry.{Entry}
 use Rattle.board_definitions.specs.declared.event.FeedStop.{FeedStop}
 use Rattle.board_definitions.specs.Entries.{ends}
 use Rattle.board_definitions.specs.Pins.{has_ended}
-use Rattle.report_text_laws.specs.Boards.{line_in}
+use Rattle.report_laws.specs.Boards.{line_in}
 use Rattle.feed_board_laws.specs.Bodies.{lines_in}
 use Rattle.desk_definitions.specs.declared.feed_end.FeedEnd.{FeedEnd}
 use Rattle.desk_definitions.specs.Lines.{body_of, ended_entry, entries_of, entry_of, event_of, key_of}

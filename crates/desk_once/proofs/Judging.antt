@@ -6,8 +6,8 @@ use Rattle.std.proofs.lemmas.Slice.Eq.{bytes_eq-Decides}
 use Rattle.std.proofs.Math.Seq.{take-append_seam}
 use Rattle.std.proofs.KnownBytes.{Keeps-refl}
 use Rattle.scan_types.specs.declared.rule.VoidRule.{VoidRule}
-use Rattle.report_text.specs.Seen.{SeenFeed}
-use Rattle.report_text.specs.Report.{IsReport}
+use Rattle.report_definitions.specs.Seen.{SeenFeed}
+use Rattle.report_definitions.specs.Report.{IsReport}
 use Rattle.board_definitions.specs.declared.event.Entry.{Entry}
 use Rattle.board_definitions.specs.declared.event.Event.TheVariants.{Pinned}
 use Rattle.board_definitions.specs.Entries.{pins}

@@ -1,7 +1,7 @@
 -- Runs of which no body is read.
 use Rattle.std.proofs.Common.{◌≡◌, ℕ, suc, ◌+◌, ◌≤◌, List, [], ◌∷◌, ◌++◌, length, map, Option, Some, None, refl, sym, ap, ◌∙◌, subst, arith, length-append, inl, inr}
 use Rattle.std.specs.Io.KnownBytes.{Keeps}
-use Rattle.feed_text.specs.declared.header.Header.{Header}
+use Rattle.feed_definitions.specs.declared.header.Header.{Header}
 use Rattle.board_definitions.specs.declared.event.Entry.{Entry}
 use Rattle.board_definitions.specs.declared.event.FeedStop.{FeedStop}
 use Rattle.desk_definitions.specs.declared.feed_end.FeedEnd.{FeedEnd}

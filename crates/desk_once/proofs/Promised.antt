@@ -3,8 +3,8 @@ use Rattle.std.proofs.Common.{◌≡◌, ◌≢◌, ℕ, zero, suc, ◌+◌, Boo
 use Rattle.std.specs.List.{list_any}
 use Rattle.board_definitions.specs.declared.event.FeedStop.{FeedStop}
 use Rattle.board_definitions.specs.declared.event.FeedStop.TheVariants as stops
-use Rattle.report_text.specs.Seen.{SeenFeed}
-use Rattle.report_text.specs.Report.{IsReport}
+use Rattle.report_definitions.specs.Seen.{SeenFeed}
+use Rattle.report_definitions.specs.Report.{IsReport}
 use Rattle.desk_definitions.specs.declared.feed_end.FeedEnd.{FeedEnd}
 use Rattle.desk_definitions.specs.declared.status.TheConstants.{WANT_OF_MEMORY}
 use Rattle.desk_definitions.specs.Seen.{SinkSeen, Due, IsWritten}

@@ -3,12 +3,12 @@ use Rattle.std.proofs.Common.{◌≡◌, ℕ, Bool, true, Some, List, [], ◌∷
 use Rattle.std.specs.Prelude.{Option, IsTrue}
 use Rattle.std.specs.List.{AllZip}
 use Rattle.std.proofs.Props.{props}
-use Rattle.feed_text.specs.declared.cause.Refusal.{Refusal}
-use Rattle.feed_text.specs.declared.header.Header.{Header}
+use Rattle.feed_definitions.specs.declared.cause.Refusal.{Refusal}
+use Rattle.feed_definitions.specs.declared.header.Header.{Header}
 use Rattle.board_definitions.specs.declared.event.FeedStop.{FeedStop}
-use Rattle.report_text.specs.declared.feed_part.FeedPart.{FeedPart}
-use Rattle.report_text.specs.Stops.{is_reported}
-use Rattle.report_text.specs.Seen.{SeenFeed}
+use Rattle.report_definitions.specs.declared.feed_part.FeedPart.{FeedPart}
+use Rattle.report_definitions.specs.Stops.{is_reported}
+use Rattle.report_definitions.specs.Seen.{SeenFeed}
 use Rattle.desk_definitions.specs.declared.feed_end.FeedEnd.{FeedEnd}
 use Rattle.desk_definitions.specs.Reads.{FeedRead, IsSeenAs, AreSeenAs}
 use Rattle.desk_once.specs.Reports.{IsPartOf, emptied, filled}

@@ -8,15 +8,15 @@ use Rattle.std.proofs.lemmas.List.Folds.{list_any-append}
 use Rattle.scan_types.specs.declared.offer.Offer.{Offer}
 use Rattle.scan_types.specs.declared.rule.VoidRule.{VoidRule}
 use Rattle.finding_definitions.specs.declared.finding.Finding.{Finding}
-use Rattle.feed_text.specs.declared.accepted.Accepted.{Accepted}
-use Rattle.feed_text.specs.declared.header.Header.{Header}
-use Rattle.feed_text.specs.Feed.{accepted_in}
+use Rattle.feed_definitions.specs.declared.accepted.Accepted.{Accepted}
+use Rattle.feed_definitions.specs.declared.header.Header.{Header}
+use Rattle.feed_definitions.specs.Feed.{accepted_in}
 use Rattle.board_definitions.specs.declared.event.Entry.{Entry}
 use Rattle.board_definitions.specs.Entries as entries
-use Rattle.report_text.specs.declared.feed_part.FeedPart.{FeedPart}
-use Rattle.report_text.specs.Stops.{is_reported}
-use Rattle.report_text.specs.Seen.{SeenFeed, lines_of, rule_of}
-use Rattle.report_text_laws.specs.Boards.{HoldsLinesOf, line_in}
+use Rattle.report_definitions.specs.declared.feed_part.FeedPart.{FeedPart}
+use Rattle.report_definitions.specs.Stops.{is_reported}
+use Rattle.report_definitions.specs.Seen.{SeenFeed, lines_of, rule_of}
+use Rattle.report_laws.specs.Boards.{HoldsLinesOf, line_in}
 use Rattle.desk_report.specs.Histories.{HasNoPins, lines_in}
 use Rattle.desk_report.specs.Judged.{HasFindings}
 use Rattle.desk_report.proofs.Bodies.{body_lines, body_unpinned, judged_lines}

@@ -4,10 +4,10 @@ use Rattle.std.specs.Prelude.{All, IsSome, IsTrue, slice_get}
 use Rattle.std.proofs.lemmas.List.{map-append}
 use Rattle.std.proofs.lemmas.List.Elements.{All-push}
 use Rattle.scan_types.specs.declared.rule.VoidRule.{VoidRule}
-use Rattle.feed_text.specs.declared.header.Header.{Header}
-use Rattle.feed_text.specs.Feed.{accepted_in}
+use Rattle.feed_definitions.specs.declared.header.Header.{Header}
+use Rattle.feed_definitions.specs.Feed.{accepted_in}
 use Rattle.board_definitions.specs.declared.event.Entry.{Entry}
-use Rattle.report_text.specs.Stops.{is_reported}
+use Rattle.report_definitions.specs.Stops.{is_reported}
 use Rattle.quote_board.specs.Views.{BoardView}
 use Rattle.feed_bodies.specs.Bodies.{IsReadyFor}
 use Rattle.desk_opening.specs.declared.begun.Begun.{Begun}

@@ -4,9 +4,9 @@ use Rattle.std.specs.Prelude.{slice_get, All, IsTrue, take, option_map}
 use Rattle.std.specs.List.{AllPairs}
 use Rattle.std.proofs.Math.Seq.{take-append_seam}
 use Rattle.scan_types.specs.declared.rule.VoidRule.{VoidRule}
-use Rattle.feed_text.specs.declared.header.Header.{Header}
+use Rattle.feed_definitions.specs.declared.header.Header.{Header}
 use Rattle.board_definitions.specs.declared.event.Entry.{Entry}
-use Rattle.report_text.specs.Stops.{is_reported}
+use Rattle.report_definitions.specs.Stops.{is_reported}
 use Rattle.quote_board.specs.Answers.{AreRulesOf}
 use Rattle.desk_opening.specs.declared.begun.Begun.{Begun}
 use Rattle.desk_opening.specs.Headers.{AreHeadersRead}

@@ -4,8 +4,8 @@ use Rattle.std.specs.Prelude.{IsTrue, slice_index_or}
 use Rattle.std.specs.List.{list_any}
 use Rattle.board_definitions.specs.declared.event.FeedStop.{FeedStop}
 use Rattle.board_definitions.specs.declared.event.FeedStop.TheVariants as stops
-use Rattle.feed_text.specs.declared.step.Step.{Step}
-use Rattle.report_text.specs.Stops.{is_reported}
+use Rattle.feed_definitions.specs.declared.step.Step.{Step}
+use Rattle.report_definitions.specs.Stops.{is_reported}
 use Rattle.desk_definitions.specs.declared.feed_end.FeedEnd.{FeedEnd}
 use Rattle.desk_definitions.specs.Ends.{IsStopOf}
 use Rattle.desk_definitions.specs.Reads.{FeedRead, AreReadSo}

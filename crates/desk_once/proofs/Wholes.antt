@@ -4,17 +4,17 @@ use Rattle.std.specs.Prelude.{◌==◌}
 use Rattle.std.proofs.lemmas.Bool.{eqb-false}
 use Rattle.std.specs.Io.KnownBytes.{Consumes, IsAtEnd}
 use Rattle.scan_types.specs.declared.limits.TheConstants.{MOST_FEED_BYTES, MOST_LINES}
-use Rattle.feed_text.specs.declared.accepted.Accepted.{Accepted}
-use Rattle.feed_text.specs.declared.cause.Fault.{Fault}
-use Rattle.feed_text.specs.declared.cause.Refusal.{Refusal}
-use Rattle.feed_text.specs.declared.header.Header.{Header}
-use Rattle.feed_text.specs.declared.step.Step.{Step}
-use Rattle.feed_text.specs.declared.step.Step.TheVariants as step
-use Rattle.feed_text.specs.Lines.{answered_lines, counted_lines, ended_lines, is_cut, is_too_large, lines_within}
-use Rattle.feed_text.specs.Forms.{header_of}
-use Rattle.feed_text.specs.Feed.{accepted_in, ending, feed_steps, line_answer, line_steps, refusal, steps}
-use Rattle.feed_text.specs.Answers.{is_open}
-use Rattle.feed_text.proofs.Prefixes.{bad_header_stays, cut_stays, steps_stay}
+use Rattle.feed_definitions.specs.declared.accepted.Accepted.{Accepted}
+use Rattle.feed_definitions.specs.declared.cause.Fault.{Fault}
+use Rattle.feed_definitions.specs.declared.cause.Refusal.{Refusal}
+use Rattle.feed_definitions.specs.declared.header.Header.{Header}
+use Rattle.feed_definitions.specs.declared.step.Step.{Step}
+use Rattle.feed_definitions.specs.declared.step.Step.TheVariants as step
+use Rattle.feed_definitions.specs.Lines.{answered_lines, counted_lines, ended_lines, is_cut, is_too_large, lines_within}
+use Rattle.feed_definitions.specs.Forms.{header_of}
+use Rattle.feed_definitions.specs.Feed.{accepted_in, ending, feed_steps, line_answer, line_steps, refusal, steps}
+use Rattle.feed_definitions.specs.Answers.{is_open}
+use Rattle.feed_definitions.proofs.Prefixes.{bad_header_stays, cut_stays, steps_stay}
 use Rattle.desk_definitions.specs.Ends.{IsFirstLineClear}
 use Rattle.desk_definitions.specs.Causes.{IsGoodText}
 use Rattle.desk_once.proofs.Elements.{same_last}

@@ -1,12 +1,12 @@
 -- The bodies of feeds, read one after another onto a board.
 use Rattle.std.specs.Prelude.{ℕ, ◌≡◌, ◌≢◌, ◌+◌, ◌≤◌, Bool, true, false, IsTrue, List, [], ◌∷◌, ◌++◌, length, map, Option, Some, All, IsSome}
 use Rattle.scan_types.specs.declared.rule.VoidRule.{VoidRule}
-use Rattle.feed_text.specs.declared.header.Header.{Header}
-use Rattle.feed_text.specs.Feed.{accepted_in}
+use Rattle.feed_definitions.specs.declared.header.Header.{Header}
+use Rattle.feed_definitions.specs.Feed.{accepted_in}
 use Rattle.board_definitions.specs.declared.event.FeedStop.TheVariants as stops
 use Rattle.board_definitions.specs.declared.event.Entry.{Entry}
 use Rattle.board_definitions.specs.Entries.{rule_of}
-use Rattle.report_text.specs.Stops.{is_reported}
+use Rattle.report_definitions.specs.Stops.{is_reported}
 use Rattle.quote_board.specs.Views.{BoardView}
 use Rattle.feed_bodies.specs.Bodies.{with_entries}
 use Rattle.desk_opening.specs.declared.begun.Begun.{Begun}

@@ -3,7 +3,7 @@ use Rattle.std.specs.Prelude.{ℕ, ◌≡◌, Bool, MatchBool, List, [], map, zi
 use Rattle.std.specs.Io.KnownBytes.{Appends}
 use Rattle.outside_definitions.specs.Faults.{Rose}
 use Rattle.outside_definitions.specs.Sink.{AppendsPrefix}
-use Rattle.report_text.specs.declared.feed_part.FeedPart.{FeedPart}
+use Rattle.report_definitions.specs.declared.feed_part.FeedPart.{FeedPart}
 use Rattle.desk_definitions.specs.declared.feed_end.FeedEnd.{FeedEnd}
 use Rattle.desk_definitions.specs.Seen.{SinkSeen}
 

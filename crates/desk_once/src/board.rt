@@ -3,7 +3,7 @@ ghost use Rattle.std.specs.Prelude.{◌≡◌, ◌≤◌, length, map, IfOk, []}
 ghost use Rattle.scan_types.specs.declared.limits.TheConstants.{MOST_FEEDS};
 ghost use Rattle.quote_board.specs.Answers.{AreRulesOf};
 
-use feed_text::Header;
+use feed_definitions::Header;
 use quote_board::Board;
 use scan_types::{VoidRule, WantOfMemory};
 use std::alloc::Global;

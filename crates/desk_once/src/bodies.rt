@@ -3,7 +3,7 @@ ghost use Rattle.std.specs.Prelude.{ℕ, List, Option, All, ◌≡◌, ◌≢◌
 ghost use Rattle.std.specs.VecDeque.{deque_len};
 ghost use Rattle.scan_types.specs.declared.limits.TheConstants.{MOST_FEEDS};
 ghost use Rattle.board_definitions.specs.declared.event.FeedStop.TheVariants as stops;
-ghost use Rattle.report_text.specs.Stops.{is_reported};
+ghost use Rattle.report_definitions.specs.Stops.{is_reported};
 ghost use Rattle.feed_bodies.specs.Bodies.{IsReadyFor};
 ghost use Rattle.desk_opening.specs.Headers.{IsHeaderRead, AreHeadersRead};
 ghost use Rattle.desk_once.specs.Bodies.{AreCutAt, AreReadSoFar, IsNextRead, headers_of};

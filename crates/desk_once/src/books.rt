@@ -14,7 +14,7 @@ use desk_definitions::DeskEnd;
 use desk_definitions::status::WANT_OF_MEMORY;
 use desk_io::{Sink, Source};
 use desk_opening::Begun;
-use feed_text::Header;
+use feed_definitions::Header;
 use std::alloc::Global;
 use std::collections::VecDeque;
 

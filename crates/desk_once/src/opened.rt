@@ -13,7 +13,7 @@ use crate::headless::{of_one_book, without_header};
 use desk_definitions::DeskEnd;
 use desk_io::{Sink, Source};
 use desk_opening::{Begun, first_twins, read_headers};
-use feed_text::Header;
+use feed_definitions::Header;
 use scan_types::WantOfMemory;
 use std::alloc::Global;
 use std::collections::VecDeque;

@@ -1,12 +1,12 @@
 //! The report of a judged board, written.
 ghost use Rattle.std.specs.Prelude.{ℕ, List, ◌≡◌, ◌≤◌, ◌⊎◌, length, map, zip, All, IsSome, IsTrue, IfOk, OnErr};
 ghost use Rattle.std.specs.List.{AllZip, list_any};
-ghost use Rattle.report_text.specs.declared.feed_part.FeedPart.{FeedPart};
-ghost use Rattle.report_text.specs.declared.match_part.MatchPart.{MatchPart};
-ghost use Rattle.report_text.specs.Stops.{is_reported};
-ghost use Rattle.report_text.specs.Seen.{SeenFeed};
-ghost use Rattle.report_text.specs.Report.{report_text, IsReport};
-ghost use Rattle.report_text_laws.specs.Boards.{HoldsLinesOf};
+ghost use Rattle.report_definitions.specs.declared.feed_part.FeedPart.{FeedPart};
+ghost use Rattle.report_definitions.specs.declared.match_part.MatchPart.{MatchPart};
+ghost use Rattle.report_definitions.specs.Stops.{is_reported};
+ghost use Rattle.report_definitions.specs.Seen.{SeenFeed};
+ghost use Rattle.report_definitions.specs.Report.{report_text, IsReport};
+ghost use Rattle.report_laws.specs.Boards.{HoldsLinesOf};
 ghost use Rattle.desk_report.specs.Judged.{HasFindings, AllowsFindings};
 ghost use Rattle.desk_definitions.specs.declared.feed_end.FeedEnd.{FeedEnd};
 ghost use Rattle.desk_definitions.specs.declared.status.TheConstants.{WANT_OF_MEMORY};
@@ -21,7 +21,7 @@ use desk_definitions::status::{CUT, DONE, NOT_READ, NOT_WRITTEN, WANT_OF_MEMORY}
 use desk_io::Sink;
 use desk_report::make_matches;
 use quote_board::Board;
-use report_writer::{FeedPart, FeedParts, MatchParts, Refusals, Report, write_report};
+use arb_report::{FeedPart, FeedParts, MatchParts, Refusals, Report, write_report};
 use scan_types::WantOfMemory;
 use std::alloc::Global;
 

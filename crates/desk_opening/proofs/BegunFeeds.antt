@@ -3,8 +3,8 @@ use Rattle.std.proofs.Common.{◌≡◌, ℕ, suc, ◌+◌, ◌<◌, not, List, 
 use Rattle.std.specs.Prelude.{Result, Ok, Err, IfOk}
 use Rattle.std.proofs.lemmas.List.{length-append}
 use Rattle.std.proofs.Math.ListN.{take-append-drop}
-use Rattle.feed_text.specs.declared.step.Step.TheVariants as step
-use Rattle.feed_reader.specs.Reader.{its_steps}
+use Rattle.feed_definitions.specs.declared.step.Step.TheVariants as step
+use Rattle.feed_lines.specs.Reader.{its_steps}
 use Rattle.desk_definitions.specs.declared.feed_end.FeedEnd.{FeedEnd}
 use Rattle.desk_definitions.specs.Ends.{IsReadSo}
 use Rattle.desk_definitions.specs.Reads.{FeedRead, AreBegun, AreReadSo}

@@ -4,15 +4,15 @@ use Rattle.std.specs.Prelude.{slice_get, Ok, Err, ◌||◌, ◌&&◌, ◌==◌}
 use Rattle.std.proofs.lemmas.List.{append-nil}
 use Rattle.std.proofs.lemmas.Bool.Decides.{nat_tests}
 use Rattle.scan_types.specs.declared.limits.TheConstants.{MOST_FEED_BYTES, MOST_LINES}
-use Rattle.feed_text.specs.declared.cause.Refusal.{Refusal}
-use Rattle.feed_text.specs.declared.step.Step.{Step}
-use Rattle.feed_text.specs.declared.step.Step.TheVariants as step
-use Rattle.feed_text.specs.Lines.{ended_lines, unended, all_lines, is_too_large, is_cut, lines_within, answered_lines}
-use Rattle.feed_text.specs.Feed.{steps, ending}
-use Rattle.feed_text.specs.Forms.{header_of}
-use Rattle.feed_text.specs.Answers.{header_step, is_open}
-use Rattle.feed_text.proofs.Prefixes.{steps_end, step_of_line, bad_header_stays}
-use Rattle.feed_text.proofs.Texts.{answered_failed, all_lines_few}
+use Rattle.feed_definitions.specs.declared.cause.Refusal.{Refusal}
+use Rattle.feed_definitions.specs.declared.step.Step.{Step}
+use Rattle.feed_definitions.specs.declared.step.Step.TheVariants as step
+use Rattle.feed_definitions.specs.Lines.{ended_lines, unended, all_lines, is_too_large, is_cut, lines_within, answered_lines}
+use Rattle.feed_definitions.specs.Feed.{steps, ending}
+use Rattle.feed_definitions.specs.Forms.{header_of}
+use Rattle.feed_definitions.specs.Answers.{header_step, is_open}
+use Rattle.feed_definitions.proofs.Prefixes.{steps_end, step_of_line, bad_header_stays}
+use Rattle.feed_definitions.proofs.Texts.{answered_failed, all_lines_few}
 use Rattle.desk_definitions.specs.Ends.{IsFirstLineClear}
 use Rattle.std.specs.Io.KnownBytes.{IsAtEnd}
 

@@ -4,14 +4,14 @@ use Rattle.std.specs.Prelude.{slice_get, if◌then◌else◌}
 use Rattle.std.specs.Io.KnownBytes.{Consumes, IsAtEnd}
 use Rattle.std.proofs.KnownBytes.{Consumes-nil}
 use Rattle.desk_io.specs.Faults.{Rose}
-use Rattle.feed_text.specs.declared.cause.Refusal.{Refusal}
-use Rattle.feed_text.specs.declared.header.Header.{Header}
-use Rattle.feed_text.specs.declared.step.Step.{Step}
-use Rattle.feed_text.specs.declared.step.Step.TheVariants as step
-use Rattle.feed_text.specs.Feed.{steps}
-use Rattle.feed_text.specs.Answers.{ends_feed}
-use Rattle.feed_reader.specs.Taking.{Takes}
-use Rattle.feed_reader.specs.Reader.{ReaderView, its_steps, answered, is_of_line}
+use Rattle.feed_definitions.specs.declared.cause.Refusal.{Refusal}
+use Rattle.feed_definitions.specs.declared.header.Header.{Header}
+use Rattle.feed_definitions.specs.declared.step.Step.{Step}
+use Rattle.feed_definitions.specs.declared.step.Step.TheVariants as step
+use Rattle.feed_definitions.specs.Feed.{steps}
+use Rattle.feed_definitions.specs.Answers.{ends_feed}
+use Rattle.feed_lines.specs.Taking.{Takes}
+use Rattle.feed_lines.specs.Reader.{ReaderView, its_steps, answered, is_of_line}
 use Rattle.board_definitions.specs.declared.event.FeedStop.{FeedStop}
 use Rattle.board_definitions.specs.declared.event.FeedStop.TheVariants as stops
 use Rattle.desk_definitions.specs.declared.feed_end.FeedEnd.{FeedEnd}

@@ -3,7 +3,7 @@ use Rattle.std.proofs.Common.{◌≡◌, ◌≢◌, ℕ, zero, suc, ◌+◌, ◌
 use Rattle.std.specs.Prelude.{slice_get, slice_index_or, option_and_then}
 use Rattle.std.specs.List.{AllPairs}
 use Rattle.std.proofs.lemmas.List.{length-map}
-use Rattle.feed_text.specs.declared.header.Header.{Header}
+use Rattle.feed_definitions.specs.declared.header.Header.{Header}
 use Rattle.desk_definitions.specs.declared.feed_end.FeedEnd.{FeedEnd}
 use Rattle.desk_definitions.specs.Reads.{book_of, AreFirstTwins, AreOfDifferentBooks}
 use Rattle.desk_opening.specs.declared.begun.Begun.{Begun}

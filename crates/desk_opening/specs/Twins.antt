@@ -1,6 +1,6 @@
 -- Feeds of one book, by the books of all feeds in order.
 use Rattle.std.specs.Prelude.{ℕ, ◌≡◌, ◌≢◌, ◌<◌, List, [], length, map, slice_index_or}
-use Rattle.feed_text.specs.declared.header.Header.{Header}
+use Rattle.feed_definitions.specs.declared.header.Header.{Header}
 
 -- the books that these headers name
 abbrev pub books_of : List Header → List (List ℕ)

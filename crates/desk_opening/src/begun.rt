@@ -1,6 +1,6 @@
 use desk_definitions::FeedEnd;
-use feed_reader::FeedReader;
-use feed_text::{Header, Refusal};
+use feed_lines::FeedReader;
+use feed_definitions::{Header, Refusal};
 
 /// A feed whose header was read, and no more.
 #[derive(Drop)]

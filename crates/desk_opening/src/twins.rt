@@ -2,7 +2,7 @@
 ghost use Rattle.std.specs.Prelude.{ℕ, ◌≡◌, ◌≢◌, ◌<◌, ◌≤◌, length, AllPairs, IfSome, IfNone};
 ghost use Rattle.desk_opening.specs.Twins.{books_of, book_at, AreFirstTwinBooks};
 
-use feed_text::Header;
+use feed_definitions::Header;
 
 /// The first two feeds of one book: the later one is the first whose book stands earlier, and the earlier one the first of that book.
 /// O(feeds^2) comparisons of names.

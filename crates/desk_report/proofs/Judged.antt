@@ -17,7 +17,7 @@ use Rattle.board_definitions.specs.Entries.{changes, pins}
 use Rattle.board_definitions.specs.Pins.{IsDue}
 use Rattle.board_definitions.proofs.Live.{slice_get-before}
 use Rattle.board_definitions.proofs.More.{change_within}
-use Rattle.report_text_laws.specs.Boards.{quotes_match}
+use Rattle.report_laws.specs.Boards.{quotes_match}
 use Rattle.desk_definitions.specs.Judged.{pinned_entry, filed_entry, JudgesLongestDue, JudgesSoMany, IsAllJudged}
 use Rattle.desk_report.specs.Marks.{pinned_by, pinned_name}
 use Rattle.desk_report.specs.Judged.{HasNewFinding, HasFindings}

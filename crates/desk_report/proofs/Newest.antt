@@ -18,7 +18,7 @@ use Rattle.board_definitions.specs.Sheets.{sheet, standing_sheet, standing, offe
 use Rattle.board_definitions.specs.Legal.{IsLegal}
 use Rattle.board_definitions.proofs.Changes.{standing-push}
 use Rattle.board_definitions.proofs.Live.{take_next, slice_get-before}
-use Rattle.report_text_laws.proofs.Through.{filter_map-same, flat_map-same}
+use Rattle.report_laws.proofs.Through.{filter_map-same, flat_map-same}
 use Rattle.desk_report.specs.Marks.{pinned_by, pinned_name}
 use Rattle.desk_report.specs.Judged.{filed_by, filed_at}
 use Rattle.desk_report.proofs.Sound.{IsFiledAt}

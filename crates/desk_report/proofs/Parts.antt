@@ -20,11 +20,11 @@ use Rattle.judging_definitions.specs.ExactFinding.{IsFindingOf}
 use Rattle.board_definitions.specs.declared.event.Entry.{Entry}
 use Rattle.board_definitions.specs.Legal.{IsLegal}
 use Rattle.board_definitions.specs.Sheets.{sheet}
-use Rattle.report_text.specs.declared.match_part.MatchPart.{MatchPart}
-use Rattle.report_text.specs.Seen.{SeenFeed, IsQuoted, sheet_of}
-use Rattle.report_text.specs.Report.{AreMatchesOf}
-use Rattle.report_text_laws.specs.Boards.{HoldsLinesOf, quotes_match}
-use Rattle.report_text_laws.proofs.Boards.{same_sheets, same_matches}
+use Rattle.report_definitions.specs.declared.match_part.MatchPart.{MatchPart}
+use Rattle.report_definitions.specs.Seen.{SeenFeed, IsQuoted, sheet_of}
+use Rattle.report_definitions.specs.Report.{AreMatchesOf}
+use Rattle.report_laws.specs.Boards.{HoldsLinesOf, quotes_match}
+use Rattle.report_laws.proofs.Boards.{same_sheets, same_matches}
 use Rattle.desk_report.specs.declared.marks.Mark.{Mark}
 use Rattle.desk_report.specs.Marks.{mark_in, mark_at}
 use Rattle.desk_report.specs.Judged.{filed_at, HasNewFinding, HasFindings, AllowsFindings, IsPart}

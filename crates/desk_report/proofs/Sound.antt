@@ -14,7 +14,7 @@ use Rattle.board_definitions.specs.declared.event.Event.TheVariants.{Quoted, Wit
 use Rattle.board_definitions.specs.declared.event.Entry.{Entry}
 use Rattle.board_definitions.specs.Entries.{changes}
 use Rattle.board_definitions.proofs.Live.{take_next}
-use Rattle.report_text_laws.specs.Boards.{quotes_match}
+use Rattle.report_laws.specs.Boards.{quotes_match}
 use Rattle.desk_report.specs.declared.marks.Mark.{Mark}
 use Rattle.desk_report.specs.Marks.{pinned_name, changed_at, mark_filed, filed_on, mark_step, mark_at}
 use Rattle.desk_report.specs.Judged.{HasNewFinding}

@@ -1,11 +1,11 @@
 -- What the lines of feeds and judging put into a history.
 use Rattle.std.specs.Prelude.{ℕ, ◌≡◌, false, ◌==◌, List, [], if◌then◌else◌}
 use Rattle.std.specs.List.{filter_map, list_any}
-use Rattle.feed_text.specs.declared.accepted.Accepted.{Accepted}
+use Rattle.feed_definitions.specs.declared.accepted.Accepted.{Accepted}
 use Rattle.board_definitions.specs.declared.event.FeedStop.{FeedStop}
 use Rattle.board_definitions.specs.declared.event.Entry.{Entry}
 use Rattle.board_definitions.specs.Entries.{pins}
-use Rattle.report_text_laws.specs.Boards.{line_in}
+use Rattle.report_laws.specs.Boards.{line_in}
 use Rattle.desk_definitions.specs.Lines.{body_of}
 
 -- the accepted lines of the feed of this number that the history holds

@@ -10,8 +10,8 @@ use Rattle.board_definitions.specs.declared.event.Event.TheVariants.{Filed}
 use Rattle.board_definitions.specs.declared.event.Entry.{Entry}
 use Rattle.board_definitions.specs.Entries.{changes}
 use Rattle.board_definitions.specs.Sheets.{sheet}
-use Rattle.report_text.specs.declared.match_part.MatchPart.{MatchPart}
-use Rattle.report_text_laws.specs.Boards.{quotes_match}
+use Rattle.report_definitions.specs.declared.match_part.MatchPart.{MatchPart}
+use Rattle.report_laws.specs.Boards.{quotes_match}
 use Rattle.desk_report.specs.declared.marks.Mark.{Mark}
 use Rattle.desk_report.specs.Marks.{pinned_name}
 

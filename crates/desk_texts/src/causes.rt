@@ -1,7 +1,7 @@
 ghost use Rattle.std.specs.Prelude.{◌≡◌, ◌≤◌, length};
-ghost use Rattle.report_text.specs.Words.{cause_text};
+ghost use Rattle.report_definitions.specs.Words.{cause_text};
 
-use feed_text::Cause;
+use feed_definitions::Cause;
 
 // The word of why a line was refused.
 pub(crate) fn cause_word(cause: Cause) -> &'static [u8]

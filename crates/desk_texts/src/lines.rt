@@ -4,7 +4,7 @@ ghost use Rattle.odds_fixed.specs.declared.text_buf.TheConstants.{TEXT_BYTES};
 ghost use Rattle.desk_definitions.specs.Texts.{about_feed, cannot_be_opened, cannot_be_read, have_one_name, is_no_header};
 
 use crate::causes::cause_word;
-use feed_text::Refusal;
+use feed_definitions::Refusal;
 use odds_fixed::{TextBuf, put_number};
 
 // Appends bytes.

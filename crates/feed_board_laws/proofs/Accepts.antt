@@ -8,26 +8,26 @@ use Rattle.scan_types.specs.Ranges.{IsLimitRange}
 use Rattle.scan_types.specs.Selections.{selection_number}
 use Rattle.number_definitions.specs.Readings.{limit_of}
 use Rattle.number_definitions.specs.Values.{is_within, within_from, limit_with, or_cause, in_range}
-use Rattle.feed_text.specs.declared.accepted.Accepted.{Accepted}
-use Rattle.feed_text.specs.declared.accepted.Change.{Change}
-use Rattle.feed_text.specs.declared.cause.Cause.{Cause}
-use Rattle.feed_text.specs.declared.cause.Cause.TheVariants as cause
-use Rattle.feed_text.specs.declared.cause.Fault.{Fault}
-use Rattle.feed_text.specs.declared.header.Header.{Header}
-use Rattle.feed_text.specs.declared.request.Request.{Request}
-use Rattle.feed_text.specs.declared.request.Action.{Action}
-use Rattle.feed_text.specs.declared.request.Action.TheVariants.{Quotes, Withdraws}
-use Rattle.feed_text.specs.declared.request.Market.{Market}
-use Rattle.feed_text.specs.declared.request.LineForm.{LineForm}
-use Rattle.feed_text.specs.declared.request.LineForm.TheVariants as form
-use Rattle.feed_text.specs.declared.step.Step.{Step}
-use Rattle.feed_text.specs.declared.step.Step.TheVariants as step
-use Rattle.feed_text.specs.Lines.{answered_lines, is_cut}
-use Rattle.feed_text.specs.Fields.{Field, Unread, fields, and_then, at_column, first_field, next, next_at, nothing_in, no_more}
-use Rattle.feed_text.specs.Forms.{without_return, ascii_or, read_ascii, is_too_long, is_skipped, form_read, header_of, line_form, request_form, selection_form, change_form, limit_value, odds_value, name_value, one_of, action_words, market_words}
-use Rattle.feed_text.specs.Standing.{refused_for}
-use Rattle.feed_text.specs.Feed.{refusal, request_step, form_step, line_answer, accepted_in, line_steps, feed_steps, ending, steps}
-use Rattle.feed_text.proofs.Walk.{accepted_first}
+use Rattle.feed_definitions.specs.declared.accepted.Accepted.{Accepted}
+use Rattle.feed_definitions.specs.declared.accepted.Change.{Change}
+use Rattle.feed_definitions.specs.declared.cause.Cause.{Cause}
+use Rattle.feed_definitions.specs.declared.cause.Cause.TheVariants as cause
+use Rattle.feed_definitions.specs.declared.cause.Fault.{Fault}
+use Rattle.feed_definitions.specs.declared.header.Header.{Header}
+use Rattle.feed_definitions.specs.declared.request.Request.{Request}
+use Rattle.feed_definitions.specs.declared.request.Action.{Action}
+use Rattle.feed_definitions.specs.declared.request.Action.TheVariants.{Quotes, Withdraws}
+use Rattle.feed_definitions.specs.declared.request.Market.{Market}
+use Rattle.feed_definitions.specs.declared.request.LineForm.{LineForm}
+use Rattle.feed_definitions.specs.declared.request.LineForm.TheVariants as form
+use Rattle.feed_definitions.specs.declared.step.Step.{Step}
+use Rattle.feed_definitions.specs.declared.step.Step.TheVariants as step
+use Rattle.feed_definitions.specs.Lines.{answered_lines, is_cut}
+use Rattle.feed_definitions.specs.Fields.{Field, Unread, fields, and_then, at_column, first_field, next, next_at, nothing_in, no_more}
+use Rattle.feed_definitions.specs.Forms.{without_return, ascii_or, read_ascii, is_too_long, is_skipped, form_read, header_of, line_form, request_form, selection_form, change_form, limit_value, odds_value, name_value, one_of, action_words, market_words}
+use Rattle.feed_definitions.specs.Standing.{refused_for}
+use Rattle.feed_definitions.specs.Feed.{refusal, request_step, form_step, line_answer, accepted_in, line_steps, feed_steps, ending, steps}
+use Rattle.feed_definitions.proofs.Walk.{accepted_first}
 use Rattle.feed_board_laws.specs.Bodies.{HasLimit, IsAcceptedAfter}
 
 -- readers one after another

@@ -5,10 +5,10 @@ use Rattle.std.specs.Option.{option_map_or}
 use Rattle.std.specs.Str.{bytes_eq}
 use Rattle.std.proofs.lemmas.Bool.Decides.{Decides-eqb}
 use Rattle.scan_types.specs.Selections.{selection_number}
-use Rattle.feed_text.specs.declared.accepted.Accepted.{Accepted}
-use Rattle.feed_text.specs.declared.accepted.Change.{Change}
-use Rattle.feed_text.specs.declared.accepted.Change.TheVariants.{Quote, Withdraw}
-use Rattle.feed_text.specs.Standing as text
+use Rattle.feed_definitions.specs.declared.accepted.Accepted.{Accepted}
+use Rattle.feed_definitions.specs.declared.accepted.Change.{Change}
+use Rattle.feed_definitions.specs.declared.accepted.Change.TheVariants.{Quote, Withdraw}
+use Rattle.feed_definitions.specs.Standing as text
 use Rattle.board_definitions.specs.declared.key.Key.{Key}
 use Rattle.board_definitions.specs.declared.event.Event.{Event}
 use Rattle.board_definitions.specs.declared.event.Event.TheVariants.{Quoted, Withdrawn, Ended, Pinned, Filed, Released}
@@ -16,7 +16,7 @@ use Rattle.board_definitions.specs.declared.event.Entry.{Entry}
 use Rattle.board_definitions.specs.Entries as entries
 use Rattle.board_definitions.specs.Sheets.{stands}
 use Rattle.board_definitions.proofs.Keys.{is_key_parts}
-use Rattle.report_text_laws.specs.Boards.{line_in}
+use Rattle.report_laws.specs.Boards.{line_in}
 use Rattle.feed_board_laws.proofs.Through.{find_through, filter_map-reverse}
 use Rattle.feed_board_laws.specs.Bodies.{lines_in}
 

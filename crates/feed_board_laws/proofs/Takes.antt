@@ -10,11 +10,11 @@ use Rattle.scan_types.specs.declared.limits.TheConstants.{MOST_STANDING}
 use Rattle.scan_types.specs.declared.rule.VoidRule.{VoidRule}
 use Rattle.scan_types.specs.declared.selection.Selection.{Selection}
 use Rattle.scan_types.specs.Selections.{selection_number}
-use Rattle.feed_text.specs.declared.accepted.Accepted.{Accepted}
-use Rattle.feed_text.specs.declared.accepted.Change.{Change}
-use Rattle.feed_text.specs.declared.accepted.Change.TheVariants.{Quote, Withdraw}
-use Rattle.feed_text.specs.declared.cause.Cause.TheVariants.{TooManyMatches, TooManyOffers, NotQuoted}
-use Rattle.feed_text.specs.Standing as text
+use Rattle.feed_definitions.specs.declared.accepted.Accepted.{Accepted}
+use Rattle.feed_definitions.specs.declared.accepted.Change.{Change}
+use Rattle.feed_definitions.specs.declared.accepted.Change.TheVariants.{Quote, Withdraw}
+use Rattle.feed_definitions.specs.declared.cause.Cause.TheVariants.{TooManyMatches, TooManyOffers, NotQuoted}
+use Rattle.feed_definitions.specs.Standing as text
 use Rattle.board_definitions.specs.declared.key.Key.{Key}
 use Rattle.board_definitions.specs.declared.key.TheConstants.{SELECTIONS}
 use Rattle.board_definitions.specs.declared.event.Event.{Event}
@@ -24,7 +24,7 @@ use Rattle.board_definitions.specs.Entries.{IsBeforeLine, ends}
 use Rattle.board_definitions.specs.Sheets.{stands, standing_count}
 use Rattle.board_definitions.specs.Legal.{IsLater, IsOpenFeed}
 use Rattle.board_definitions.proofs.Counts.{count_le}
-use Rattle.report_text_laws.specs.Boards.{line_in}
+use Rattle.report_laws.specs.Boards.{line_in}
 use Rattle.desk_definitions.specs.Lines.{key_of, event_of, entry_of}
 use Rattle.feed_board_laws.specs.Bodies.{lines_in, HoldsLines, HasLimit, IsAcceptedAfter, MayTake}
 use Rattle.feed_board_laws.proofs.Stands.{same_stands}

@@ -4,16 +4,16 @@ use Rattle.std.specs.List.{filter_map}
 use Rattle.scan_types.specs.declared.rule.VoidRule.{VoidRule}
 use Rattle.scan_types.specs.Ranges.{IsLimitRange}
 use Rattle.scan_types.specs.Selections.{selection_number}
-use Rattle.feed_text.specs.declared.accepted.Accepted.{Accepted}
-use Rattle.feed_text.specs.declared.accepted.Change.{Change}
-use Rattle.feed_text.specs.declared.accepted.Change.TheVariants.{Quote, Withdraw}
-use Rattle.feed_text.specs.Standing.{refused_for}
+use Rattle.feed_definitions.specs.declared.accepted.Accepted.{Accepted}
+use Rattle.feed_definitions.specs.declared.accepted.Change.{Change}
+use Rattle.feed_definitions.specs.declared.accepted.Change.TheVariants.{Quote, Withdraw}
+use Rattle.feed_definitions.specs.Standing.{refused_for}
 use Rattle.board_definitions.specs.declared.key.Key.{Key}
 use Rattle.board_definitions.specs.declared.event.Entry.{Entry}
 use Rattle.board_definitions.specs.Entries.{rule_of}
 use Rattle.board_definitions.specs.Pins.{has_ended}
 use Rattle.board_definitions.specs.Legal.{MayQuote, MayWithdraw}
-use Rattle.report_text_laws.specs.Boards.{line_in}
+use Rattle.report_laws.specs.Boards.{line_in}
 
 -- the lines of the feed that the history holds, in order
 abbrev pub lines_in : List Entry → ℕ → List Accepted

@@ -1,10 +1,10 @@
 -- What joins the lines of a feed and a board that holds them.
 use Rattle.std.specs.Prelude.{ℕ, ◌≡◌, ◌≢◌, Bool, List, [], ◌∷◌, ◌++◌, Option, Some, take, slice_get}
 use Rattle.scan_types.specs.declared.rule.VoidRule.{VoidRule}
-use Rattle.feed_text.specs.declared.accepted.Accepted.{Accepted}
-use Rattle.feed_text.specs.declared.step.Step.TheVariants.{Line}
-use Rattle.feed_text.specs.Feed.{steps, accepted_in}
-use Rattle.feed_text.specs.Standing as text
+use Rattle.feed_definitions.specs.declared.accepted.Accepted.{Accepted}
+use Rattle.feed_definitions.specs.declared.step.Step.TheVariants.{Line}
+use Rattle.feed_definitions.specs.Feed.{steps, accepted_in}
+use Rattle.feed_definitions.specs.Standing as text
 use Rattle.board_definitions.specs.declared.event.Entry.{Entry}
 use Rattle.board_definitions.specs.Sheets.{stands}
 use Rattle.desk_definitions.specs.Lines.{key_of, entry_of}

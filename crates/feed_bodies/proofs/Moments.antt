@@ -8,14 +8,14 @@ use Rattle.std.proofs.lemmas.List.{take-append-drop, length-take}
 use Rattle.std.proofs.lemmas.List.Elements.{filter_map-append}
 use Rattle.outside_definitions.specs.Faults.{Rose}
 use Rattle.scan_types.specs.declared.rule.VoidRule.{VoidRule}
-use Rattle.feed_text.specs.declared.accepted.Accepted.{Accepted}
-use Rattle.feed_text.specs.declared.cause.Refusal.{Refusal}
-use Rattle.feed_text.specs.declared.header.Header.{Header}
-use Rattle.feed_text.specs.declared.step.Step.{Step}
-use Rattle.feed_text.specs.declared.step.Step.TheVariants as step
-use Rattle.feed_text.specs.Feed.{accepted_in, steps}
-use Rattle.feed_text.specs.Answers.{ends_feed}
-use Rattle.feed_text.proofs.Walk.{accepted_joined}
+use Rattle.feed_definitions.specs.declared.accepted.Accepted.{Accepted}
+use Rattle.feed_definitions.specs.declared.cause.Refusal.{Refusal}
+use Rattle.feed_definitions.specs.declared.header.Header.{Header}
+use Rattle.feed_definitions.specs.declared.step.Step.{Step}
+use Rattle.feed_definitions.specs.declared.step.Step.TheVariants as step
+use Rattle.feed_definitions.specs.Feed.{accepted_in, steps}
+use Rattle.feed_definitions.specs.Answers.{ends_feed}
+use Rattle.feed_definitions.proofs.Walk.{accepted_joined}
 use Rattle.board_definitions.specs.declared.event.FeedStop.{FeedStop}
 use Rattle.board_definitions.specs.declared.event.FeedStop.TheVariants as stops
 use Rattle.board_definitions.specs.declared.event.Entry.{Entry}
@@ -25,7 +25,7 @@ use Rattle.desk_definitions.specs.Lines.{entry_of, entries_of}
 use Rattle.feed_board_laws.specs.Bodies.{HoldsLines, IsAcceptedAfter}
 use Rattle.feed_board_laws.proofs.Takes.{line_held}
 use Rattle.feed_board_laws.proofs.Accepts.{steps_accepted}
-use Rattle.feed_reader.specs.Reader.{ReaderView, its_steps, answered, is_of_line, is_read_fault}
+use Rattle.feed_lines.specs.Reader.{ReaderView, its_steps, answered, is_of_line, is_read_fault}
 use Rattle.feed_bodies.specs.Bodies.{stop_of, with_entries, IsReadyFor, ArePut, IsBegun, IsBetween, IsOver}
 use Rattle.feed_bodies.proofs.Steps.{steps_few, is_first, behind_header, end_read, fault_read, cut_read}
 

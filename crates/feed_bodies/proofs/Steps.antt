@@ -3,22 +3,22 @@ use Rattle.std.proofs.Common.{ℕ, ◌≡◌, ◌+◌, ◌<◌, ◌≤◌, Bool,
 use Rattle.std.specs.Prelude.{Option, Some, None, Result, Ok, Err, min}
 use Rattle.std.proofs.lemmas.List.{length-take}
 use Rattle.scan_types.specs.declared.limits.TheConstants.{MOST_LINES}
-use Rattle.feed_text.specs.declared.accepted.Accepted.{Accepted}
-use Rattle.feed_text.specs.declared.cause.Cause.{Cause}
-use Rattle.feed_text.specs.declared.cause.Fault.{Fault}
-use Rattle.feed_text.specs.declared.header.Header.{Header}
-use Rattle.feed_text.specs.declared.request.Request.{Request}
-use Rattle.feed_text.specs.declared.request.LineForm.{LineForm}
-use Rattle.feed_text.specs.declared.request.LineForm.TheVariants as form
-use Rattle.feed_text.specs.declared.step.Step.{Step}
-use Rattle.feed_text.specs.declared.step.Step.TheVariants as step
-use Rattle.feed_text.specs.Lines.{answered_lines, counted_lines, is_cut}
-use Rattle.feed_text.specs.Forms.{header_of, line_form}
-use Rattle.feed_text.specs.Standing.{refused_for}
+use Rattle.feed_definitions.specs.declared.accepted.Accepted.{Accepted}
+use Rattle.feed_definitions.specs.declared.cause.Cause.{Cause}
+use Rattle.feed_definitions.specs.declared.cause.Fault.{Fault}
+use Rattle.feed_definitions.specs.declared.header.Header.{Header}
+use Rattle.feed_definitions.specs.declared.request.Request.{Request}
+use Rattle.feed_definitions.specs.declared.request.LineForm.{LineForm}
+use Rattle.feed_definitions.specs.declared.request.LineForm.TheVariants as form
+use Rattle.feed_definitions.specs.declared.step.Step.{Step}
+use Rattle.feed_definitions.specs.declared.step.Step.TheVariants as step
+use Rattle.feed_definitions.specs.Lines.{answered_lines, counted_lines, is_cut}
+use Rattle.feed_definitions.specs.Forms.{header_of, line_form}
+use Rattle.feed_definitions.specs.Standing.{refused_for}
 use Rattle.scan_types.specs.Selections.{selection_number}
-use Rattle.feed_text.specs.Feed.{refusal, request_step, form_step, line_answer, accepted_in, line_steps, feed_steps, ending, steps}
-use Rattle.feed_text.proofs.Prefixes.{cut_stays}
-use Rattle.feed_reader.specs.Reader.{is_of_line}
+use Rattle.feed_definitions.specs.Feed.{refusal, request_step, form_step, line_answer, accepted_in, line_steps, feed_steps, ending, steps}
+use Rattle.feed_definitions.proofs.Prefixes.{cut_stays}
+use Rattle.feed_lines.specs.Reader.{is_of_line}
 
 -- the step is for line 1
 abbrev pub is_first : Step → Bool

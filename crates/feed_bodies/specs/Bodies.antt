@@ -1,12 +1,12 @@
 -- What reading the body of a feed adds to a board, and how the feed ends.
 use Rattle.std.specs.Prelude.{ℕ, ◌≡◌, ◌≢◌, ◌+◌, ◌<◌, true, false, List, [], ◌∷◌, ◌++◌, length, Option, Some, None, if◌then◌else◌}
 use Rattle.std.specs.Io.KnownBytes.{IsAtEnd}
-use Rattle.feed_text.specs.declared.accepted.Accepted.{Accepted}
-use Rattle.feed_text.specs.declared.cause.Refusal.{Refusal}
-use Rattle.feed_text.specs.declared.header.Header.{Header}
-use Rattle.feed_text.specs.declared.step.Step.{Step}
-use Rattle.feed_text.specs.declared.step.Step.TheVariants as step
-use Rattle.feed_text.specs.Feed.{accepted_in}
+use Rattle.feed_definitions.specs.declared.accepted.Accepted.{Accepted}
+use Rattle.feed_definitions.specs.declared.cause.Refusal.{Refusal}
+use Rattle.feed_definitions.specs.declared.header.Header.{Header}
+use Rattle.feed_definitions.specs.declared.step.Step.{Step}
+use Rattle.feed_definitions.specs.declared.step.Step.TheVariants as step
+use Rattle.feed_definitions.specs.Feed.{accepted_in}
 use Rattle.board_definitions.specs.declared.event.FeedStop.{FeedStop}
 use Rattle.board_definitions.specs.declared.event.FeedStop.TheVariants as stops
 use Rattle.board_definitions.specs.declared.event.Entry.{Entry}
@@ -17,8 +17,8 @@ use Rattle.desk_definitions.specs.declared.feed_end.FeedEnd.{FeedEnd}
 use Rattle.desk_definitions.specs.Ends.{header_in, refused_in, IsStopOf, AreKept, IsEndOf}
 use Rattle.desk_definitions.specs.Lines.{entries_of, body_of}
 use Rattle.feed_board_laws.specs.Bodies.{lines_in, HoldsLines}
-use Rattle.feed_reader.specs.Taking.{GoesOn}
-use Rattle.feed_reader.specs.Reader.{ReaderView, answered}
+use Rattle.feed_lines.specs.Taking.{GoesOn}
+use Rattle.feed_lines.specs.Reader.{ReaderView, answered}
 
 -- how a feed stops at a step, if it does
 abbrev pub stop_of : Step → Option FeedStop

@@ -3,7 +3,7 @@
 ghost use Rattle.std.specs.Prelude.{◌≡◌, ◌≢◌, ◌<◌, ◌+◌, Some, MatchOption, IfNone};
 ghost use Rattle.board_definitions.specs.declared.event.FeedStop.TheVariants.{ReadFault};
 ghost use Rattle.scan_types.specs.declared.limits.TheConstants.{MOST_FEEDS};
-ghost use Rattle.feed_text.specs.declared.header.Header.{Header};
+ghost use Rattle.feed_definitions.specs.declared.header.Header.{Header};
 ghost use Rattle.quote_board.specs.Views.{BoardView};
 ghost use Rattle.feed_bodies.specs.Bodies.{IsBegun, IsReadyFor, IsBetween, IsSomewhere, IsOver, IsBodyRead, ReadsOn};
 
@@ -11,8 +11,8 @@ use crate::taking::{stop_of, take_step};
 use board_definitions::{FeedStop, Law};
 use desk_definitions::FeedEnd;
 use desk_io::Source;
-use feed_reader::FeedReader;
-use feed_text::{Header as HeaderLine, Refusals};
+use feed_lines::FeedReader;
+use feed_definitions::{Header as HeaderLine, Refusals};
 use quote_board::Board;
 use std::alloc::Global;
 

@@ -2,16 +2,16 @@
 
 ghost use Rattle.std.specs.Prelude.{ℕ, ◌≡◌, ◌<◌, ◌++◌, ◌∷◌, [], OnOk, OnErr};
 ghost use Rattle.scan_types.specs.declared.limits.TheConstants.{MOST_FEEDS};
-ghost use Rattle.feed_text.specs.declared.accepted.Accepted.{Accepted as AcceptedLine};
-ghost use Rattle.feed_text.specs.declared.step.Step.TheVariants as answer;
-ghost use Rattle.feed_text.specs.Feed.{accepted_in};
+ghost use Rattle.feed_definitions.specs.declared.accepted.Accepted.{Accepted as AcceptedLine};
+ghost use Rattle.feed_definitions.specs.declared.step.Step.TheVariants as answer;
+ghost use Rattle.feed_definitions.specs.Feed.{accepted_in};
 ghost use Rattle.desk_definitions.specs.Ends.{refused_in};
 ghost use Rattle.desk_definitions.specs.Lines.{entry_of, entries_of};
 ghost use Rattle.feed_board_laws.specs.Bodies.{lines_in, HoldsLines, IsAcceptedAfter};
 ghost use Rattle.feed_bodies.specs.Bodies.{stop_of, with_entries};
 
 use board_definitions::{FeedStop, Key, Law};
-use feed_text::{Accepted, Change, Refusals, Step};
+use feed_definitions::{Accepted, Change, Refusals, Step};
 use quote_board::Board;
 use scan_types::WantOfMemory;
 

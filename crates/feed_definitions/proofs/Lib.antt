@@ -1,5 +1,5 @@
+mod Worked
 pub mod Pieces
 pub mod Walk
+pub mod Texts
 pub mod Prefixes
-pub mod Orders
-pub mod Sheets

@@ -1,7 +1,7 @@
 pub mod Lines
-pub mod Numbers
-pub mod Plain
-pub mod Views
-pub mod Answered
+pub mod Fields
+pub mod Forms
 pub mod Standing
+pub mod Feed
+pub mod Answers
 pub mod Laws

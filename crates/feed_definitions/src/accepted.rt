@@ -3,7 +3,7 @@ use scan_types::{Name, Odds, Selection};
 /// What a line does to the offer that it names.
 #[derive(Clone, Copy, Debug, PartialEq, Eq)]
 pub enum Change {
-    /// Offers these odds, up to a stake limit of 1 to 100,000,000 minor units.
+    /// Offers these odds, up to a stake limit of 1 to `MOST_LIMIT` minor units.
     Quote(Odds, u32),
     /// Withdraws the offer.
     Withdraw,

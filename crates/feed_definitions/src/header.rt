@@ -5,6 +5,6 @@ use scan_types::{Name, VoidRule};
 pub struct Header {
     /// The name of the book.
     pub book: Name,
-    /// How the book settles bets where the match is abandoned.
+    /// How the book settles bets if the match is abandoned.
     pub rule: VoidRule,
 }

@@ -1,28 +1,34 @@
 //! What holds of the feed text itself, whatever code reads it. Each function is empty: its clause is the law.
 
-ghost use Rattle.std.specs.Prelude.{◌≡◌, ◌<◌, ◌≤◌, ℕ, Bool, false, List, ◌++◌, length, take};
-ghost use Rattle.feed_definitions.specs.Lines.{ended_lines, unended};
-ghost use Rattle.feed_definitions.specs.Plain.{steps, most_line_bytes};
-ghost use Rattle.feed_definitions.specs.Laws.{OneOffer, OneSheet};
+ghost use Rattle.feed_definitions.specs.Laws.{StepsStay, StepsAreOfLines, EndingFollows, CutStays, BadHeaderStays, BadHeaderEnds};
 
-/// What the lines ended so far bring stays, however the text goes on and whether or not reading fails.
+/// The steps of the lines ended so far stay, however the text goes on and whether or not reading fails. So a reader can return them
+/// before it has the whole text.
 pub fn steps_before_stay()
-    ensures { (text more : List ℕ) (failed later : Bool) (n : ℕ) → n ≤ length (ended_lines text) →
-        take n (steps later (text ++ more)) ≡ take n (steps failed text) }
+    ensures { StepsStay }
 {}
 
-/// A line of more than 200 bytes is not plain, so a text that breaks off in one has the steps of each text that it begins.
-pub fn long_lines_are_not_plain()
-    ensures { (text more : List ℕ) → most_line_bytes < length (unended text) →
-        steps false (text ++ more) ≡ steps false text }
+/// The step of a line is a function of this line and of the steps before it.
+pub fn a_step_is_of_its_line()
+    ensures { StepsAreOfLines }
 {}
 
-/// Of one selection in one feed, at most one offer stands on a match.
-pub fn a_selection_has_one_offer()
-    ensures { OneOffer }
+/// Behind the steps of all lines, one step says how the feed ends, and nothing follows.
+pub fn the_ending_follows_the_lines()
+    ensures { EndingFollows }
 {}
 
-/// A match has at most one sheet: the offers that stand on it leave no choice of their order.
-pub fn a_match_has_one_sheet()
-    ensures { OneSheet }
+/// Once a limit of size is passed, all steps stay, however the text goes on and whether or not reading fails.
+pub fn a_cut_stays()
+    ensures { CutStays }
+{}
+
+/// Once line 1 is ended and no header, all steps stay.
+pub fn a_bad_header_stays()
+    ensures { BadHeaderStays }
+{}
+
+/// Nothing follows line 1 if that is no header.
+pub fn a_bad_header_ends_the_feed()
+    ensures { BadHeaderEnds }
 {}

@@ -1,21 +1,29 @@
-//! The feed text: what a feed's bytes mean, and the types of what is read.
+//! The feed text: what all the bytes of a feed mean, and the types of what is read.
 //!
-//! - `header`, `accepted`, `step`: what a reader answers.
+//! - `header`, `accepted`, `cause`, `step`: what a reader returns. `refusals`: the refused lines of a feed.
+//! - `request`: a line by itself, before what stands in the feed is looked at.
 //! - `laws`: what holds of the definitions themselves.
 //!
-//! The definitions stand in `specs`: `Lines` (a text as lines), `Numbers` (odds and limits), `Plain` (the plain feed text as one
-//! function of all the bytes), `Answered` (what the lines answered so far have brought), `Standing` (what stands of each match after
-//! some accepted lines), `Views` (what the types here stand for) and `Laws` (the laws' statements).
+//! The definitions stand in `specs`: `Lines` (a text as lines, and its limits of size), `Fields` (a line as fields, read from left to
+//! right), `Forms` (the forms of lines, as tables), `Standing` (what the accepted lines leave standing), `Feed` (the steps of all the
+//! bytes), `Answers` (what the answers so far leave) and `Laws` (the laws' statements).
 #![tactic(auto)]
 
 mod accepted;
+mod cause;
 mod header;
 mod laws;
+mod refusals;
+mod request;
 mod step;
 
 pub use accepted::{Accepted, Change};
+pub use cause::{Cause, Fault, Refusal};
 pub use header::Header;
 pub use laws::{
-    a_match_has_one_sheet, a_selection_has_one_offer, long_lines_are_not_plain, steps_before_stay,
+    a_bad_header_ends_the_feed, a_bad_header_stays, a_cut_stays, a_step_is_of_its_line,
+    steps_before_stay, the_ending_follows_the_lines,
 };
+pub use refusals::Refusals;
+pub use request::{Action, LineForm, Market, Request};
 pub use step::Step;

@@ -4,7 +4,7 @@ use Rattle.std.specs.Option.{ok_or}
 use Rattle.std.specs.Prelude.{ℤ}
 use Rattle.number_definitions.specs.Readings.{quarters_of}
 use Rattle.number_definitions.specs.Values.{in_range, or_cause}
-use Rattle.feed_text.specs.declared.cause.Cause.TheVariants.{BadLine, LineRange}
+use Rattle.feed_definitions.specs.declared.cause.Cause.TheVariants.{BadLine, LineRange}
 
 made : {B D : Type 0} (cause : D) (o : Option B) → ok_or o cause ≡ or_cause cause o
 made cause None = refl

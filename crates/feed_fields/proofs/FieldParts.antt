@@ -8,7 +8,7 @@ use Rattle.std.proofs.lemmas.List.Splits.{slice_split-cons_yes, slice_split_firs
 use Rattle.std.proofs.lemmas.List.Sums.{fails_before_first, passes_at_first}
 use Rattle.std.specs.List.{slice_split, position, position_or_len}
 use Rattle.odds_fixed.proofs.Splits.{no_first, found}
-use Rattle.feed_text.specs.Fields.{is_separator, fields_from, placed}
+use Rattle.feed_definitions.specs.Fields.{is_separator, fields_from, placed}
 
 abbrev pub is_other : ℕ → Bool
 is_other byte = not (is_separator byte)

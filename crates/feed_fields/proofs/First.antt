@@ -1,10 +1,10 @@
 -- What the next field of a text is, at the fields that are still to be read.
 use Rattle.std.proofs.Common.{◌≡◌, ℕ, ◌+◌, ◌≤◌, true, List, length, take, drop, get_or, eqb, not, Some, None, Result, Ok, Err, sym, ap, ◌∙◌, arith}
 use Rattle.std.specs.List.{position, position_or_len}
-use Rattle.feed_text.specs.declared.cause.Fault.{Fault}
-use Rattle.feed_text.specs.declared.cause.Cause.TheVariants.{Missing, Extra}
-use Rattle.feed_text.specs.Fields.{is_separator, Field, Unread, fields_from, first_field, nothing_in}
-use Rattle.feed_text.specs.Forms.{is_skipped}
+use Rattle.feed_definitions.specs.declared.cause.Fault.{Fault}
+use Rattle.feed_definitions.specs.declared.cause.Cause.TheVariants.{Missing, Extra}
+use Rattle.feed_definitions.specs.Fields.{is_separator, Field, Unread, fields_from, first_field, nothing_in}
+use Rattle.feed_definitions.specs.Forms.{is_skipped}
 use Rattle.odds_fixed.proofs.Splits.{no_first, found}
 use Rattle.std.proofs.lemmas.Bool.{ltb-false}
 use Rattle.std.proofs.lemmas.List.{length-take-le}

@@ -2,13 +2,13 @@
 use Rattle.std.specs.Prelude.{ℕ, not, List, Result, Ok}
 use Rattle.std.specs.List.{position}
 use Rattle.scan_types.specs.Ranges.{IsLimitRange}
-use Rattle.feed_text.specs.declared.accepted.Change.{Change}
-use Rattle.feed_text.specs.declared.accepted.Change.TheVariants.{Quote, Withdraw}
-use Rattle.feed_text.specs.declared.cause.Fault.{Fault}
-use Rattle.feed_text.specs.declared.request.LineForm.{LineForm}
-use Rattle.feed_text.specs.declared.request.LineForm.TheVariants.{Skipped, Wrong, Asks}
-use Rattle.feed_text.specs.declared.request.Request.{Request}
-use Rattle.feed_text.specs.Forms.{is_text_byte, ascii_or}
+use Rattle.feed_definitions.specs.declared.accepted.Change.{Change}
+use Rattle.feed_definitions.specs.declared.accepted.Change.TheVariants.{Quote, Withdraw}
+use Rattle.feed_definitions.specs.declared.cause.Fault.{Fault}
+use Rattle.feed_definitions.specs.declared.request.LineForm.{LineForm}
+use Rattle.feed_definitions.specs.declared.request.LineForm.TheVariants.{Skipped, Wrong, Asks}
+use Rattle.feed_definitions.specs.declared.request.Request.{Request}
+use Rattle.feed_definitions.specs.Forms.{is_text_byte, ascii_or}
 
 -- the first byte that may not stand in a line
 abbrev pub ascii_test : List ℕ → Result (Unit {0}) Fault

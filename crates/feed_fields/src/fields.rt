@@ -1,9 +1,9 @@
 //! What is still to be read of a line.
 ghost use Rattle.std.specs.Prelude.{◌≡◌, ◌≤◌, Bool, not, Ok, IfOk, length};
 ghost use Rattle.std.specs.List.{position, position_or_len};
-ghost use Rattle.feed_text.specs.Fields.{is_separator};
+ghost use Rattle.feed_definitions.specs.Fields.{is_separator};
 
-use feed_text::{Cause, Fault};
+use feed_definitions::{Cause, Fault};
 use scan_types::MOST_LINE_BYTES;
 use std::marker::Model;
 
@@ -15,7 +15,7 @@ pub struct Field<'a> {
 }
 
 impl<'a> Model for Field<'a> {
-    ghost use Rattle.feed_text.specs.Fields.{Field as FieldView};
+    ghost use Rattle.feed_definitions.specs.Fields.{Field as FieldView};
 
     ghost Value = { FieldView };
 
@@ -31,7 +31,7 @@ pub struct Fields<'a> {
 
 impl<'a> Model for Fields<'a> {
     ghost use Rattle.std.specs.Prelude.{◌+◌, ◌≤◌, length};
-    ghost use Rattle.feed_text.specs.Fields.{Unread, fields_from};
+    ghost use Rattle.feed_definitions.specs.Fields.{Unread, fields_from};
     ghost use Rattle.scan_types.specs.declared.limits.TheConstants.{MOST_LINE_BYTES};
 
     ghost Value = { Unread };
@@ -74,8 +74,8 @@ fn field_length(text: &[u8]) -> usize
 }
 
 impl<'a> Fields<'a> {
-    ghost use Rattle.feed_text.specs.Fields.{fields, first_field, nothing_in};
-    ghost use Rattle.feed_text.specs.Forms.{is_skipped};
+    ghost use Rattle.feed_definitions.specs.Fields.{fields, first_field, nothing_in};
+    ghost use Rattle.feed_definitions.specs.Forms.{is_skipped};
 
     /// All fields of a line that is not too long.
     pub fn of(line: &'a [u8]) -> Fields<'a>
@@ -132,7 +132,7 @@ impl<'a> Fields<'a> {
 }
 
 impl<'a> Field<'a> {
-    ghost use Rattle.feed_text.specs.Fields.{at_column};
+    ghost use Rattle.feed_definitions.specs.Fields.{at_column};
 
     /// Its bytes.
     pub fn bytes(&self) -> &'a [u8]

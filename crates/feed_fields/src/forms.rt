@@ -1,7 +1,7 @@
 //! The forms of lines: their fields from left to right.
 ghost use Rattle.std.specs.Prelude.{◌≡◌, IfOk};
 ghost use Rattle.feed_fields.specs.Tests.{HasLimitInRange};
-ghost use Rattle.feed_text.specs.Forms.{header_form, selection_form, change_form, request_form};
+ghost use Rattle.feed_definitions.specs.Forms.{header_form, selection_form, change_form, request_form};
 
 use crate::fields::Fields;
 use crate::readers::{
@@ -9,11 +9,11 @@ use crate::readers::{
     next_odds, next_placed_name, next_result_side, next_rule, next_total, next_total_side,
     next_version,
 };
-use feed_text::{Action, Change, Fault, Header, Market, Request};
+use feed_definitions::{Action, Change, Fault, Header, Market, Request};
 use scan_types::Selection;
 
 /// feed 1 BOOK RULE.
-#[tactic(auto, unfolding(feed_text::specs::Forms::header_form))]
+#[tactic(auto, unfolding(feed_definitions::specs::Forms::header_form))]
 pub fn header_form<'a>(fields: Fields<'a>) -> Result<(Header, Fields<'a>), Fault>
     ensures { result ≡ header_form fields.entry }
 {
@@ -25,7 +25,7 @@ pub fn header_form<'a>(fields: Fields<'a>) -> Result<(Header, Fields<'a>), Fault
 }
 
 // SIDE of the result, or LINE SIDE.
-#[tactic(auto, unfolding(feed_text::specs::Forms::selection_form))]
+#[tactic(auto, unfolding(feed_definitions::specs::Forms::selection_form))]
 fn selection_form<'a>(fields: Fields<'a>, market: Market) -> Result<(Selection, Fields<'a>), Fault>
     ensures { result ≡ selection_form market fields.entry }
 {
@@ -43,7 +43,7 @@ fn selection_form<'a>(fields: Fields<'a>, market: Market) -> Result<(Selection, 
 }
 
 // ODDS LIMIT of a quote, and nothing of a withdrawal.
-#[tactic(auto, unfolding(feed_text::specs::Forms::change_form))]
+#[tactic(auto, unfolding(feed_definitions::specs::Forms::change_form))]
 fn change_form<'a>(fields: Fields<'a>, action: Action) -> Result<(Change, Fields<'a>), Fault>
     ensures value { result ≡ change_form action fields.entry }
     ensures range { IfOk result (λ read. HasLimitInRange read.0) }
@@ -59,7 +59,7 @@ fn change_form<'a>(fields: Fields<'a>, action: Action) -> Result<(Change, Fields
 }
 
 /// quote or withdraw, MATCH, the market, the selection at it, and the change.
-#[tactic(auto, unfolding(feed_text::specs::Forms::request_form))]
+#[tactic(auto, unfolding(feed_definitions::specs::Forms::request_form))]
 pub fn request_form<'a>(fields: Fields<'a>) -> Result<(Request, Fields<'a>), Fault>
     ensures value { result ≡ request_form fields.entry }
     ensures range { IfOk result (λ read. HasLimitInRange read.0.change) }

@@ -1,12 +1,12 @@
 //! A whole line, given as it stands before its line feed.
 ghost use Rattle.std.specs.Prelude.{◌≡◌, ◌≤◌, ◌<◌, not, length, IfSome, IfOk};
 ghost use Rattle.std.specs.List.{position};
-ghost use Rattle.feed_text.specs.Forms.{is_text_byte, too_long, without_return, read_ascii, header_form, request_form, header_of, line_form};
+ghost use Rattle.feed_definitions.specs.Forms.{is_text_byte, too_long, without_return, read_ascii, header_form, request_form, header_of, line_form};
 ghost use Rattle.feed_fields.specs.Tests.{ascii_test, HasLimitInRange, IfAsks};
 
 use crate::fields::Fields;
 use crate::forms::{header_form, request_form};
-use feed_text::{Cause, Fault, Header, LineForm, Request};
+use feed_definitions::{Cause, Fault, Header, LineForm, Request};
 use scan_types::MOST_LINE_BYTES;
 
 // What is wrong with a line that has too many bytes.
@@ -91,7 +91,7 @@ fn request_text(text: &[u8]) -> Result<Request, Fault>
 ///
 /// The fault is the first one of these tests: the line is too long, a byte is not allowed, then the fields `feed 1 BOOK RULE` from left
 /// to right, and a field too many. O(bytes of the line); takes no memory.
-#[tactic(auto, unfolding(feed_text::specs::Forms::header_of))]
+#[tactic(auto, unfolding(feed_definitions::specs::Forms::header_of))]
 pub fn read_header(line: &[u8]) -> Result<Header, Fault>
     ensures { result ≡ header_of line.now }
 {
@@ -105,7 +105,7 @@ pub fn read_header(line: &[u8]) -> Result<Header, Fault>
 ///
 /// The answer is the first one of these: the line is too long, it is skipped, a byte is not allowed, then the fields of a quote or a
 /// withdrawal from left to right, and a field too many. O(bytes of the line); takes no memory.
-#[tactic(auto, unfolding(feed_text::specs::Forms::line_form))]
+#[tactic(auto, unfolding(feed_definitions::specs::Forms::line_form))]
 pub fn read_line(line: &[u8]) -> LineForm
     ensures value { result ≡ line_form line.now }
     ensures range { IfAsks result (λ request. HasLimitInRange request.change) }

@@ -1,5 +1,5 @@
 use crate::{read_header, read_line};
-use feed_text::{Cause, Header, LineForm};
+use feed_definitions::{Cause, Header, LineForm};
 use scan_types::{Name, VoidRule};
 use std::test::Fail;
 

@@ -1,9 +1,9 @@
 //! Names, odds, stake limits and lines as fields.
 ghost use Rattle.std.specs.Prelude.{◌≡◌, IfOk};
 ghost use Rattle.scan_types.specs.Ranges.{IsLimitRange};
-ghost use Rattle.feed_text.specs.Forms.{name_value, odds_value, limit_value, handicap_value, total_value};
+ghost use Rattle.feed_definitions.specs.Forms.{name_value, odds_value, limit_value, handicap_value, total_value};
 
-use feed_text::Cause;
+use feed_definitions::Cause;
 use odds_fixed::{LimitFault, OddsFault, read_limit, read_odds, read_quarters};
 use scan_types::{HandicapLine, Name, Odds, TotalLine};
 

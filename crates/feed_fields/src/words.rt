@@ -1,9 +1,9 @@
 //! The words that may stand in a field, each as what it stands for.
 ghost use Rattle.std.specs.Prelude.{◌≡◌};
 ghost use Rattle.std.specs.Str.{bytes_eq};
-ghost use Rattle.feed_text.specs.Forms.{one_of, feed_words, version_words, rule_words, action_words, market_words, result_words, handicap_words, total_words};
+ghost use Rattle.feed_definitions.specs.Forms.{one_of, feed_words, version_words, rule_words, action_words, market_words, result_words, handicap_words, total_words};
 
-use feed_text::{Action, Cause, Market};
+use feed_definitions::{Action, Cause, Market};
 use scan_types::{HandicapLine, Selection, TotalLine, VoidRule};
 
 // Whether the text is this word.

@@ -1,10 +1,6 @@
-pub mod Walks
 pub mod Splits
-pub mod Numbers
-pub mod PlainLines
-pub mod Starts
-pub mod Quoting
-pub mod Outcomes
-pub mod Reading
 pub mod Takings
+pub mod Rows
+pub mod Lines
+pub mod Answering
 pub mod Between

@@ -1,29 +1,26 @@
 //! The reader of one feed: bytes of a source in, one step after another out.
 //!
 //! - `reader`: `FeedReader`, whose steps are those of the feed text whatever pieces it comes in.
-//! - `taken`: the bytes taken from a source, and its reads.
-//! - `plain_line`: the header and the quotes that a line may be; `fields` takes a line apart.
-//! - `odds_text`, `limit_text`, `number_text`: numbers as a feed writes them.
-//! - `match_names`: the matches that were quoted so far.
-//! - `limits`: the largest sizes.
+//! - `taken`: the bytes taken from a source, and its reads; `reading`, `next_line`: how the next line stands in them.
+//! - `answer`, `line_step`: the answer to the next line.
+//! - `standing`: what stands of the feed, by match and selection.
+//! - `find`, `limits`: the first of some bytes; sizes of buffers.
 //!
-//! A reader keeps all bytes that it took: 4,198,400 bytes of memory, asked for by the first step. A step costs time in the bytes
-//! of its line, of the reads that it makes, and in the number of match names so far, at most 256.
+//! A reader keeps all bytes that it took: `MOST_TAKEN` bytes of memory, asked for by the first step. A step costs time in the bytes of
+//! its line and of the reads that it makes, and one look-up of its match.
 #![tactic(auto)]
 
-mod fields;
-mod limit_text;
+mod answer;
+mod find;
 mod limits;
-mod match_names;
-mod number_text;
-mod odds_text;
-mod plain_line;
+mod line_step;
+mod next_line;
 mod reader;
+mod reading;
+mod standing;
 mod taken;
 
 pub use feed_definitions::{Accepted, Change, Header, Step};
-pub use limit_text::read_limit;
-pub use odds_text::read_odds;
 pub use reader::FeedReader;
 
 #[cfg(test)]

@@ -1,118 +1,75 @@
 //! The reader of one feed.
-ghost use Rattle.std.specs.Prelude.{◌≡◌, ◌≢◌, ◌+◌, ◌-◌, ◌<◌, ◌≤◌, ℕ, List, [], ◌∷◌, ◌++◌, Bool, true, false, if◌then◌else◌, Some, length, take, slice_get, vec_capacity, IfOk, OnOk, OnErr, MatchOption};
+ghost use Rattle.std.specs.Prelude.{◌≡◌, ◌+◌, ◌<◌, ◌≤◌, [], ◌∷◌, ◌++◌, not, true, false, if◌then◌else◌, Some, length, take, slice_get, vec_capacity, IfOk, OnOk, OnErr};
 ghost use Rattle.std.specs.Io.KnownBytes.{IsAtEnd};
+ghost use Rattle.scan_types.specs.declared.limits.TheConstants.{MOST_LINES};
 ghost use Rattle.desk_io.specs.Faults.{Rose};
+ghost use Rattle.feed_definitions.specs.declared.step.Step.TheVariants as any;
 ghost use Rattle.feed_definitions.specs.Lines.{ended_lines};
-ghost use Rattle.feed_definitions.specs.Plain.{LineText, FeedStep, Book, Accepts, NotPlain, Ended, Failed, book_of, plain_quote, matches_of, steps};
-ghost use Rattle.feed_definitions.specs.Views.{feed_step, is_read_fault, ends_feed, IsPlainStep, IsNumbered};
-ghost use Rattle.feed_lines.specs.Taking.{Takes, StandsSo, IsEndedAt, is_fault, is_unended};
-ghost use Rattle.feed_lines.specs.Reader.{IsReading, IsItem, IsWhole};
+ghost use Rattle.feed_definitions.specs.Feed.{accepted_in};
+ghost use Rattle.feed_definitions.specs.Answers.{ends_feed};
+ghost use Rattle.feed_lines.specs.Taking.{GoesOn};
+ghost use Rattle.feed_lines.specs.Reader.{IsAtLine, IsReadOut, StandsSo, its_steps, answered, is_read_fault, is_of_line, drained_by, failed_by, IsNumbered, IsInRange, IsWhole};
 
-use crate::limits::MOST_LINES;
-use crate::match_names::MatchNames;
-use crate::plain_line::{book_of, quote_of};
-use crate::taken::{NextLine, Taken};
+use crate::answer::answer;
+use crate::next_line::NextLine;
+use crate::reading::next_line;
+use crate::standing::Standing;
+use crate::taken::Taken;
 use desk_io::Source;
-use feed_definitions::{Header, Step};
-use scan_types::{VoidRule, WantOfMemory};
+use feed_definitions::Step;
+use scan_types::WantOfMemory;
 use std::alloc::Global;
 use std::marker::Model;
 
-/// The step of a header line.
-fn header_step(line: &[u8]) -> Step
-    ensures step { MatchOption (book_of line.now) (feed_step result ≡ NotPlain 1) (λ book. feed_step result ≡ Book book) }
-    ensures form { IsPlainStep result }
+/// How the next line stands. Once a read has answered that no bytes are left, none is made.
+fn found_next<S: Source>(taken: &mut Taken, source: &mut S, lines: u32, drained: bool) -> NextLine
+    requires room { 4198400 ≤ vec_capacity taken.old.bytes }
+    requires few_lines { lines ≤ MOST_LINES }
+    requires at_line { drained ≡ false → IsAtLine taken.old.bytes.items taken.old.start lines }
+    requires read_out { drained ≡ true → IsReadOut taken.old.bytes.items lines }
+    requires few { length taken.old.bytes.items ≤ 4198400 }
+    ensures start { taken.new.start ≡ taken.old.start }
+    ensures stands { StandsSo taken.new.bytes.items taken.new.start lines result }
+    ensures goes_on { GoesOn (S.left source.old) (S.left source.new) taken.old.bytes.items taken.new.bytes.items
+        (S.faults source.old) (S.faults source.new) (S.later source.old source.new) (S.never_fails source.old → S.never_fails source.new) }
+    ensures at_end { drained ≡ false → drained_by result ≡ true → IsAtEnd (S.left source.new) }
+    ensures kept { drained ≡ true → (drained_by result ≡ true) × (taken.new.bytes.items ≡ taken.old.bytes.items) × (source.new ≡ source.old) }
+    ensures no_read { lines < length (ended_lines taken.old.bytes.items) → (taken.new.bytes.items ≡ taken.old.bytes.items) × (source.new ≡ source.old) }
+    ensures few { length taken.new.bytes.items ≤ 4198400 }
+    ensures failed { failed_by result ≡ true → Rose (S.faults source.old) (S.faults source.new) }
+    ensures promised { S.never_fails source.old → failed_by result ≡ true → ⊥ }
 {
-    match book_of(line) {
-        Some(book) => Step::Header(Header {
-            book,
-            rule: VoidRule::Void,
-        }),
-        None => Step::NotBuilt(1),
+    if drained {
+        return NextLine::End;
     }
+    next_line(taken, source, lines)
 }
 
-/// The step of the line of this number, which is not the header.
-fn quote_step(line: &[u8], number: u32, matches: &mut MatchNames) -> Step
-    requires room { 256 ≤ vec_capacity matches.old.names }
-    requires few { length matches.old.names.items ≤ 256 }
-    ensures step { (before : List LineText) → matches_of before ≡ matches.old.names.items →
-        MatchOption (plain_quote before number line.now)
-        (feed_step result ≡ NotPlain number)
-        (λ quote. (feed_step result ≡ Accepts number quote) × (matches_of (before ++ quote ∷ []) ≡ matches.new.names.items)) }
-    ensures few { length matches.new.names.items ≤ 256 }
-    ensures form { IsPlainStep result }
+/// Whether a read has answered that no bytes are left.
+fn is_drained(found: &NextLine) -> bool
+    ensures { result ≡ drained_by found.now }
 {
-    if number > MOST_LINES {
-        return Step::NotBuilt(number);
-    }
-    match quote_of(line, number) {
-        Some(accepted) => {
-            if matches.admit(accepted.match_name) {
-                Step::Line(accepted)
-            } else {
-                Step::NotBuilt(number)
-            }
-        }
-        None => Step::NotBuilt(number),
-    }
+    matches!(found, NextLine::Last | NextLine::End)
 }
 
-/// The step of the next line, which a line feed ends at this index, and passes over it.
-fn line_step(end: usize, number: u32, taken: &mut Taken, matches: &mut MatchNames) -> Step
-    requires room { 256 ≤ vec_capacity matches.old.names }
-    requires numbered { 1 ≤ number }
-    requires reading { IsReading taken.old.bytes.items taken.old.start (number - 1) matches.old.names.items }
-    requires ended { IsEndedAt taken.old.bytes.items taken.old.start end }
-    ensures item { IsItem taken.old.bytes.items (number - 1) result }
-    ensures reading { ends_feed result ≡ false → IsReading taken.new.bytes.items taken.new.start number matches.new.names.items }
-    ensures whole { ends_feed result ≡ true → IsWhole taken.old.bytes.items }
-    ensures bytes { taken.new.bytes.items ≡ taken.old.bytes.items }
-    ensures of_line { (is_read_fault result ≡ false) × (feed_step result ≢ Ended) }
-    ensures plain { IsPlainStep result }
-    ensures numbered { IsNumbered number result }
+/// Whether nothing follows the step.
+fn ends_feed(step: &Step) -> bool
+    ensures { result ≡ ends_feed step.now }
 {
-    let line = taken.line(end);
-    let step = if number == 1 {
-        header_step(line)
-    } else {
-        quote_step(line, number, matches)
-    };
-    taken.pass(end);
-    step
+    matches!(
+        step,
+        Step::BadHeader(_) | Step::End | Step::Cut | Step::ReadFault
+    )
 }
 
-/// The step of the next line as it stands in the bytes taken.
-fn step_at(found: NextLine, number: u32, taken: &mut Taken, matches: &mut MatchNames) -> Step
-    requires room { 256 ≤ vec_capacity matches.old.names }
-    requires numbered { 1 ≤ number }
-    requires reading { IsReading taken.old.bytes.items taken.old.start (number - 1) matches.old.names.items }
-    requires stands { StandsSo taken.old.bytes.items taken.old.start found }
-    ensures item { IsItem taken.old.bytes.items (number - 1) result }
-    ensures reading { ends_feed result ≡ false → IsReading taken.new.bytes.items taken.new.start number matches.new.names.items }
-    ensures whole { ends_feed result ≡ true → is_fault found ≡ false → is_unended found ≡ false → IsWhole taken.old.bytes.items }
-    ensures bytes { taken.new.bytes.items ≡ taken.old.bytes.items }
-    ensures fault { is_read_fault result ≡ is_fault found }
-    ensures end { feed_step result ≡ Ended → is_unended found ≡ true }
-    ensures drained { is_unended found ≡ true → ends_feed result ≡ true }
-    ensures plain { IsPlainStep result }
-    ensures numbered { IsNumbered number result }
+/// Whether the step is for a line.
+fn is_of_line(step: &Step) -> bool
+    ensures { result ≡ is_of_line step.now }
 {
-    match found {
-        NextLine::Ended(end) => line_step(end, number, taken, matches),
-        NextLine::TooLong => Step::NotBuilt(number),
-        NextLine::Unended => {
-            if number > 1 && taken.unended_bytes() == 0 {
-                Step::End
-            } else {
-                Step::NotBuilt(number)
-            }
-        }
-        NextLine::ReadFault => Step::ReadFault,
-    }
+    !matches!(step, Step::End | Step::Cut | Step::ReadFault)
 }
 
-/// Reads the plain feed text from a source, one step after another.
+/// Reads a feed from a source, one step after another.
 ///
 /// It keeps the bytes that it took, so that its steps are those of the text whatever pieces the source gives it in.
 #[derive(Drop)]
@@ -120,40 +77,43 @@ pub struct FeedReader<S: Drop> {
     source: S,
     feed: u8,
     taken: Taken,
-    matches: MatchNames,
-    lines: u32,
+    standing: Standing,
+    answers: u32,
     drained: bool,
+    ended: bool,
     over: bool,
 }
 
 impl<S: Drop> Model for FeedReader<S> {
-    ghost use Rattle.std.specs.Prelude.{◌+◌, if◌then◌else◌};
+    ghost use Rattle.std.specs.Str.{bytes_eq};
+    ghost use Rattle.indexmap.specs.IndexMap.{get as row_at, index_map_len};
     ghost use Rattle.feed_lines.specs.Reader.{ReaderView, IsReader};
 
     ghost Value = { ReaderView S };
 
-    ghost view = { λ r. record { feed = r.feed; taken = r.taken.bytes.items; answers = r.lines + (if r.over then 1 else 0); drained = r.drained; over = r.over; source = r.source } };
+    ghost view = { λ r. record { feed = r.feed; taken = r.taken.bytes.items; answers = r.answers; drained = r.drained; ended = r.ended; over = r.over; source = r.source } };
 
-    ghost invariant = { λ r. IsReader r.taken.bytes.items r.taken.start r.lines r.matches.names.items r.drained r.over };
+    ghost invariant = { λ r. IsReader r.taken.bytes.items r.taken.start r.answers r.drained r.ended r.over (row_at bytes_eq r.standing.rows) (index_map_len r.standing.rows) };
 }
 
 impl<S: Source + Drop> FeedReader<S> {
     /// A reader of this source as feed number `feed`. Takes no memory and no byte.
     pub fn new(alloc: Global, source: S, feed: u8) -> FeedReader<S>
-        ensures { result ≡ record { feed = feed; taken = []; answers = 0; drained = false; over = false; source = source } }
+        ensures { result ≡ record { feed = feed; taken = []; answers = 0; drained = false; ended = false; over = false; source = source } }
     {
         FeedReader {
             source,
             feed,
             taken: Taken::new(alloc),
-            matches: MatchNames::new(alloc),
-            lines: 0,
+            standing: Standing::new(alloc),
+            answers: 0,
             drained: false,
+            ended: false,
             over: false,
         }
     }
 
-    /// Whether the last step ended the feed.
+    /// Whether nothing follows the last step.
     pub fn over(&self) -> bool
         ensures { result ≡ self.now.over }
     {
@@ -162,9 +122,13 @@ impl<S: Source + Drop> FeedReader<S> {
 
     /// How many lines were answered so far, the header included.
     pub fn lines(&self) -> u32
-        ensures { result + (if self.now.over then 1 else 0) ≡ self.now.answers }
+        ensures { result + (if self.now.ended then 1 else 0) ≡ self.now.answers }
     {
-        self.lines
+        if self.ended {
+            self.answers - 1
+        } else {
+            self.answers
+        }
     }
 
     /// Gives the source back.
@@ -174,45 +138,49 @@ impl<S: Source + Drop> FeedReader<S> {
         self.source
     }
 
-    /// The next step of the feed. After want of memory the reader is as before.
+    /// The next step of the feed. If no memory is left, the reader is as before, and no byte was taken.
     ///
-    /// The first call makes room for all bytes that the reader may take. A call reads until a line feed stands after the lines
-    /// answered, or until no line feed can make the next line plain.
+    /// The first call makes room for all bytes that the reader may take. A call reads until it is clear how the next line stands, and
+    /// makes no read if more line feeds were taken than steps were returned.
     pub fn next(&mut self) -> Result<Step, WantOfMemory>
         requires { self.old.over ≡ false }
-        ensures step { IfOk result (λ step. slice_get (steps (is_read_fault step) self.new.taken) self.old.answers ≡ Some (feed_step step)) }
-        ensures last { IfOk result (λ step. ends_feed step ≡ true → steps (is_read_fault step) self.new.taken
-            ≡ take self.old.answers (steps (is_read_fault step) self.new.taken) ++ feed_step step ∷ []) }
+        ensures step { IfOk result (λ step. slice_get (its_steps self.new) self.old.answers ≡ Some step) }
+        ensures earlier { OnOk result (take self.old.answers (its_steps self.new) ≡ answered self.old) }
+        ensures answered { IfOk result (λ step. answered self.new ≡ answered self.old ++ step ∷ []) }
+        ensures last { IfOk result (λ step. ends_feed step ≡ true → its_steps self.new ≡ answered self.new) }
         ensures counted { OnOk result (self.new.answers ≡ self.old.answers + 1) }
-        ensures few { OnOk result (self.old.answers ≤ 16384) }
         ensures over { IfOk result (λ step. self.new.over ≡ ends_feed step) }
-        ensures plain { IfOk result IsPlainStep }
+        ensures ended { IfOk result (λ step. self.new.ended ≡ not (is_of_line step)) }
+        ensures feed { OnOk result (self.new.feed ≡ self.old.feed) }
+        ensures goes_on { OnOk result (GoesOn (S.left self.old.source) (S.left self.new.source) self.old.taken self.new.taken
+            (S.faults self.old.source) (S.faults self.new.source) (S.later self.old.source self.new.source) (S.never_fails self.old.source → S.never_fails self.new.source)) }
+        ensures drained { OnOk result (self.old.drained ≡ false → self.new.drained ≡ true → IsAtEnd (S.left self.new.source)) }
+        ensures drained_stays { OnOk result (self.old.drained ≡ true →
+            (self.new.drained ≡ true) × (self.new.taken ≡ self.old.taken) × (self.new.source ≡ self.old.source)) }
+        ensures end { IfOk result (λ step. step ≡ any.End → self.new.drained ≡ true) }
+        ensures whole { IfOk result (λ step. ends_feed step ≡ true → is_read_fault step ≡ false → self.new.drained ≡ false → IsWhole self.new.taken) }
         ensures numbered { IfOk result (IsNumbered (self.old.answers + 1)) }
-        ensures feed { self.new.feed ≡ self.old.feed }
-        ensures earlier { (failed later : Bool) → take self.old.answers (steps later self.new.taken) ≡ take self.old.answers (steps failed self.old.taken) }
-        ensures taken { Takes (S.left self.old.source) (S.left self.new.source) self.old.taken self.new.taken }
-        ensures is_later { S.later self.old.source self.new.source }
-        ensures whole { IfOk result (λ step. ends_feed step ≡ true → is_read_fault step ≡ false → (more : List ℕ) →
-            S.left self.new.source ≡ Some more → steps false (self.new.taken ++ more) ≡ steps false self.new.taken) }
-        ensures drained { self.new.drained ≡ true → IsAtEnd (S.left self.new.source) }
-        ensures end { IfOk result (λ step. feed_step step ≡ Ended → self.new.drained ≡ true) }
+        ensures in_range { IfOk result IsInRange }
+        ensures no_read { OnOk result (self.old.answers < length (ended_lines self.old.taken) → (self.new.taken ≡ self.old.taken) × (self.new.source ≡ self.old.source)) }
         ensures fault { IfOk result (λ step. is_read_fault step ≡ true → Rose (S.faults self.old.source) (S.faults self.new.source)) }
-        ensures faults_kept { S.faults self.old.source ≤ S.faults self.new.source }
         ensures promised { S.never_fails self.old.source → IfOk result (λ step. is_read_fault step ≡ false) }
-        ensures promise_kept { S.never_fails self.old.source → S.never_fails self.new.source }
-        ensures no_read { self.old.answers < length (ended_lines self.old.taken) → (self.new.taken ≡ self.old.taken) × (self.new.source ≡ self.old.source) }
-        ensures bound { length self.new.taken ≤ 4198400 }
+        ensures bound { OnOk result (length self.new.taken ≤ 4198400) }
         ensures memory { OnErr result (self.new ≡ self.old) }
     {
-        self.matches.reserve()?;
+        self.standing.reserve()?;
         self.taken.reserve()?;
-        let found = self.taken.next_line(&mut self.source);
-        let step = step_at(found, self.lines + 1, &mut self.taken, &mut self.matches);
-        self.drained = matches!(found, NextLine::Unended);
-        match step {
-            Step::Header(_) | Step::Line(_) => self.lines += 1,
-            Step::NotBuilt(_) | Step::End | Step::ReadFault => self.over = true,
-        }
+        let found = found_next(
+            &mut self.taken,
+            &mut self.source,
+            self.answers,
+            self.drained,
+        );
+        let drained = is_drained(&found);
+        let step = answer(found, self.answers, &mut self.taken, &mut self.standing);
+        self.answers += 1;
+        self.drained = drained;
+        self.ended = !is_of_line(&step);
+        self.over = ends_feed(&step);
         Ok(step)
     }
 }

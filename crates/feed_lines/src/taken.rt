@@ -1,37 +1,38 @@
 //! The bytes taken from a source.
-ghost use Rattle.std.specs.Prelude.{◌≡◌, ◌+◌, ◌-◌, ◌*◌, ◌<◌, ◌≤◌, [], true, length, take, drop, vec_len, vec_capacity, MatchOption, IfOk, IsOk, OnOk, OnErr};
-ghost use Rattle.std.specs.Io.KnownBytes.{Consumes, Keeps, IsAtEnd};
-ghost use Rattle.feed_definitions.specs.Lines.{pieces};
+ghost use Rattle.std.specs.Prelude.{◌≡◌, ◌⊎◌, ◌+◌, ◌-◌, ◌<◌, ◌≤◌, [], true, length, take, drop, vec_len, vec_capacity, MatchOption, IfOk, IsOk, OnOk, OnErr};
+ghost use Rattle.std.specs.Io.KnownBytes.{IsAtEnd};
+ghost use Rattle.scan_types.specs.declared.limits.TheConstants.{MOST_FEED_BYTES};
 ghost use Rattle.desk_io.specs.Faults.{Rose};
-ghost use Rattle.feed_lines.specs.Taking.{Takes, IsOneLine, IsEndedAt, StandsSo, is_fault, is_unended};
+ghost use Rattle.feed_definitions.specs.Lines.{pieces};
+ghost use Rattle.feed_lines.specs.Taking.{GoesOn, IsOneLine, IsEndedAt, FoundSo, looked_at, is_failed, is_drained};
 
-use crate::fields::find;
-use crate::limits::{MOST_LINE_BYTES, MOST_TAKEN, READ_BYTES};
+use crate::find::find;
+use crate::limits::{MOST_TAKEN, READ_BYTES};
 use desk_io::{ReadFailed, Source};
-use scan_types::WantOfMemory;
+use scan_types::{MOST_FEED_BYTES, WantOfMemory};
 use std::alloc::Global;
 
 /// The bytes taken, and where the next line starts.
 #[derive(Drop)]
 pub struct Taken {
-    /// The bytes in their order, at most 4,198,400.
+    /// The bytes in their order, at most `MOST_TAKEN`.
     pub bytes: Vec<u8>,
     /// The index in `bytes` at which the next line starts.
     pub start: usize,
     ghost start_within: { start ≤ vec_len bytes },
 }
 
-/// How the next line stands in the bytes taken.
+/// What a search for the next line feed came to. Only the first `MOST_FEED_BYTES` bytes are looked at.
 #[derive(Clone, Copy)]
-pub enum NextLine {
+pub enum Search {
     /// A line feed stands at this index.
-    Ended(usize),
-    /// No line feed stands after the start, and more than 200 bytes do.
-    TooLong,
+    LineFeed(usize),
+    /// No line feed stands after the start, and there are more bytes than are looked at.
+    TooLarge,
     /// No line feed stands after the start, and a read has answered that no bytes are left.
-    Unended,
+    Drained,
     /// No line feed stands after the start, and a read failed.
-    ReadFault,
+    Failed,
 }
 
 impl Taken {
@@ -57,30 +58,40 @@ impl Taken {
         Ok(())
     }
 
-    /// The index of the first line feed from this index on.
-    fn line_feed_from(&self, from: usize) -> Option<usize>
-        requires { from ≤ vec_len self.now.bytes }
-        ensures { MatchOption result
-            (IsOneLine (drop from self.now.bytes.items))
-            (λ end. IsEndedAt self.now.bytes.items from end) }
+    /// The bytes that are looked at: the first `MOST_FEED_BYTES`.
+    pub fn looked_at(&self) -> &[u8]
+        ensures { result.now ≡ looked_at self.now.bytes.items }
     {
-        find(&self.bytes[from..], b'\n').map(|at| from + at)
+        if self.bytes.len() > MOST_FEED_BYTES {
+            &self.bytes[..MOST_FEED_BYTES]
+        } else {
+            &self.bytes
+        }
     }
 
-    /// Makes one read, and answers how many bytes it took: 0 only where none are left.
-    fn read_more<S: Source>(&mut self, source: &mut S) -> Result<usize, ReadFailed>
+    /// The index of the first line feed from this index on, among the bytes that are looked at.
+    fn line_feed_from(&self, from: usize) -> Option<usize>
+        requires { from ≤ length (looked_at self.now.bytes.items) }
+        ensures { MatchOption result
+            (IsOneLine (drop from (looked_at self.now.bytes.items)))
+            (λ end. IsEndedAt (looked_at self.now.bytes.items) from end) }
+    {
+        let looked = self.looked_at();
+        find(&looked[from..], b'\n').map(|at| from + at)
+    }
+
+    /// Makes one read, and returns how many bytes it took: 0 only if none are left.
+    pub fn read_more<S: Source>(&mut self, source: &mut S) -> Result<usize, ReadFailed>
         requires { vec_len self.old.bytes + 4096 ≤ vec_capacity self.old.bytes }
         ensures start { self.new.start ≡ self.old.start }
         ensures room { vec_capacity self.old.bytes ≤ vec_capacity self.new.bytes }
-        ensures takes { Takes (S.left source.old) (S.left source.new) self.old.bytes.items self.new.bytes.items }
+        ensures goes_on { GoesOn (S.left source.old) (S.left source.new) self.old.bytes.items self.new.bytes.items
+            (S.faults source.old) (S.faults source.new) (S.later source.old source.new) (S.never_fails source.old → S.never_fails source.new) }
         ensures count { IfOk result (λ count. (vec_len self.new.bytes ≡ vec_len self.old.bytes + count) × (count ≤ 4096)) }
         ensures end { IfOk result (λ count. count ≡ 0 → IsAtEnd (S.left source.new)) }
         ensures nothing { OnErr result (self.new.bytes.items ≡ self.old.bytes.items) }
         ensures failed { OnErr result (Rose (S.faults source.old) (S.faults source.new)) }
-        ensures faults_kept { S.faults source.old ≤ S.faults source.new }
-        ensures is_later { S.later source.old source.new }
         ensures promised { S.never_fails source.old → IsOk result }
-        ensures promise_kept { S.never_fails source.old → S.never_fails source.new }
     {
         let mut piece = [0; READ_BYTES];
         let count = source.read(&mut piece)?;
@@ -89,63 +100,62 @@ impl Taken {
         Ok(count)
     }
 
-    /// Reads until a line feed stands after the start, or no line feed can make the next line plain.
-    pub fn next_line<S: Source>(&mut self, source: &mut S) -> NextLine
+    /// Looks for the line feed that ends the next line, and reads until one is there, or none can come.
+    pub fn search<S: Source>(&mut self, source: &mut S) -> Search
         requires room { 4198400 ≤ vec_capacity self.old.bytes }
-        requires early { self.old.start ≤ 201 * 16384 }
+        requires low { self.old.start ≤ MOST_FEED_BYTES }
         requires few { length self.old.bytes.items ≤ 4198400 }
         ensures start { self.new.start ≡ self.old.start }
-        ensures takes { Takes (S.left source.old) (S.left source.new) self.old.bytes.items self.new.bytes.items }
-        ensures stands { StandsSo self.new.bytes.items self.new.start result }
-        ensures at_end { is_unended result ≡ true → IsAtEnd (S.left source.new) }
-        ensures no_read { 1 < length (pieces (drop self.old.start self.old.bytes.items)) →
+        ensures found { FoundSo self.new.bytes.items self.new.start result }
+        ensures goes_on { GoesOn (S.left source.old) (S.left source.new) self.old.bytes.items self.new.bytes.items
+            (S.faults source.old) (S.faults source.new) (S.later source.old source.new) (S.never_fails source.old → S.never_fails source.new) }
+        ensures at_end { is_drained result ≡ true → IsAtEnd (S.left source.new) }
+        ensures no_read { ((1 < length (pieces (drop self.old.start (looked_at self.old.bytes.items)))) ⊎ (MOST_FEED_BYTES < length self.old.bytes.items)) →
             (self.new.bytes.items ≡ self.old.bytes.items) × (source.new ≡ source.old) }
         ensures few { length self.new.bytes.items ≤ 4198400 }
-        ensures failed { is_fault result ≡ true → Rose (S.faults source.old) (S.faults source.new) }
-        ensures faults_kept { S.faults source.old ≤ S.faults source.new }
-        ensures is_later { S.later source.old source.new }
-        ensures promised { S.never_fails source.old → is_fault result ≡ true → ⊥ }
-        ensures promise_kept { S.never_fails source.old → S.never_fails source.new }
+        ensures failed { is_failed result ≡ true → Rose (S.faults source.old) (S.faults source.new) }
+        ensures promised { S.never_fails source.old → is_failed result ≡ true → ⊥ }
     {
         let mut from = self.start;
         'reads: loop {
             if let Some(end) = self.line_feed_from(from) {
-                return NextLine::Ended(end);
+                return Search::LineFeed(end);
+            }
+            if self.bytes.len() > MOST_FEED_BYTES {
+                return Search::TooLarge;
             }
             from = self.bytes.len();
-            if from - self.start > MOST_LINE_BYTES {
-                return NextLine::TooLong;
-            }
             match self.read_more(source) {
-                Ok(0) => return NextLine::Unended,
+                Ok(0) => return Search::Drained,
                 Ok(_) => {}
-                Err(ReadFailed) => return NextLine::ReadFault,
+                Err(ReadFailed) => return Search::Failed,
             }
         }
     }
 
-    /// The next line, which ends at this index.
+    /// The line that ends at this index.
     pub fn line(&self, end: usize) -> &[u8]
-        requires within { end ≤ vec_len self.now.bytes }
         requires after { self.now.start ≤ end }
-        ensures { result.now ≡ take (end - self.now.start) (drop self.now.start self.now.bytes.items) }
+        requires within { end < length (looked_at self.now.bytes.items) }
+        ensures { result.now ≡ take (end - self.now.start) (drop self.now.start (looked_at self.now.bytes.items)) }
     {
-        &self.bytes[self.start..end]
+        let looked = self.looked_at();
+        &looked[self.start..end]
     }
 
-    /// Passes over the next line, which ends at this index.
+    /// What stands from the start on.
+    pub fn rest(&self) -> &[u8]
+        ensures { result.now ≡ drop self.now.start self.now.bytes.items }
+    {
+        &self.bytes[self.start..]
+    }
+
+    /// Passes over the line that ends before the line feed at this index.
     pub fn pass(&mut self, end: usize)
-        requires { end < vec_len self.old.bytes }
+        requires { end < length (looked_at self.old.bytes.items) }
         ensures bytes { self.new.bytes.items ≡ self.old.bytes.items }
         ensures start { self.new.start ≡ end + 1 }
     {
         self.start = end + 1;
-    }
-
-    /// How many bytes stand after the start.
-    pub fn unended_bytes(&self) -> usize
-        ensures { result ≡ length (drop self.now.start self.now.bytes.items) }
-    {
-        self.bytes.len() - self.start
     }
 }

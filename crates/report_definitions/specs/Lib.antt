@@ -1,3 +1,4 @@
-pub mod Standing
+pub mod Stops
+pub mod Seen
 pub mod Words
 pub mod Report

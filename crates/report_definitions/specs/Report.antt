@@ -1,64 +1,79 @@
 -- The report as a function of the budget, the feeds, and each match with its sheet and its finding.
-use Rattle.std.specs.Prelude.{ℕ, ◌≡◌, List, [], ◌∷◌, ◌++◌, length, codes, decimal, All, AllPairs, Any}
+use Rattle.std.specs.Prelude.{ℕ, ◌≡◌, List, [], ◌∷◌, ◌++◌, length, map, codes, decimal, All, AllPairs, Any}
 use Rattle.std.specs.List.{flat_map, enumerate_from}
 use Rattle.std.specs.Cmp.Lexicographic.{slice_cmp}
 use Rattle.std.specs.Ordering.{nat_cmp}
 use Rattle.std.specs.declared.cmp.Ordering.TheVariants as ordering
-use Rattle.scan_types.specs.declared.limits.TheConstants.{DEFAULT_PIVOTS}
 use Rattle.scan_types.specs.declared.offer.Offer.{Offer}
-use Rattle.feed_definitions.specs.Standing.{IsSheetOf}
-use Rattle.finding_definitions.specs.Text.{stake_fields, measure_fields}
-use Rattle.result_verdict.specs.Findings.{IsFirstFinding, IsRightFirst}
-use Rattle.result_verdict.specs.declared.First.{First}
-use Rattle.result_verdict.specs.declared.First.TheVariants.{Arb, Coherent, Unsettled1}
+use Rattle.number_definitions.specs.Spellings.{odds_text}
+use Rattle.finding_definitions.specs.Text.{finding_text}
+use Rattle.finding_definitions.specs.declared.finding.Finding.{Finding}
+use Rattle.feed_definitions.specs.declared.cause.Refusal.{Refusal}
+use Rattle.judging_definitions.specs.ExactFinding.{IsFindingOf}
+use Rattle.report_definitions.specs.declared.feed_part.FeedPart.{FeedPart}
 use Rattle.report_definitions.specs.declared.match_part.MatchPart.{MatchPart}
-use Rattle.report_definitions.specs.Standing.{FeedPart, rules_of, lines_of, IsQuoted}
-use Rattle.report_definitions.specs.Words.{line_of, odds_text, selection_fields, rule_text}
+use Rattle.report_definitions.specs.Seen.{SeenFeed, IsQuoted, sheet_of}
+use Rattle.report_definitions.specs.Words.{line_of, selection_fields, rule_text, stop_text, cause_text}
 
-abbrev pub finding_fields : First → List (List ℕ)
-finding_fields (Arb stakes) = codes "arb" ∷ stake_fields stakes
-finding_fields (Coherent measure) = codes "coherent" ∷ measure_fields measure
-finding_fields (Unsettled1 stakes) = codes "unsettled1" ∷ stake_fields stakes
+-- the bytes
 
+-- feed K BOOK RULE lines N refused M STOP
+abbrev pub feed_line : ℕ → FeedPart → List ℕ
+feed_line number feed = line_of (codes "feed" ∷ decimal number ∷ feed.header.book ∷ rule_text feed.header.rule
+    ∷ codes "lines" ∷ decimal feed.lines ∷ codes "refused" ∷ decimal (length feed.refusals) ∷ stop_text feed.stop ∷ [])
+
+-- refused K LINE COLUMN CAUSE
+abbrev pub refusal_line : ℕ → Refusal → List ℕ
+refusal_line number refusal = line_of (codes "refused" ∷ decimal number ∷ decimal refusal.place.line ∷ decimal refusal.place.column
+    ∷ cause_text refusal.cause ∷ [])
+
+-- a feed, and then each of its refused lines
+abbrev pub feed_lines : ℕ × FeedPart → List ℕ
+feed_lines numbered = feed_line numbered.0 numbered.1 ++ flat_map (refusal_line numbered.0) numbered.1.refusals
+
+-- offer K SELECTION ODDS LIMIT
 abbrev pub offer_line : Offer → List ℕ
 offer_line offer = line_of (codes "offer" ∷ decimal offer.feed ∷
     (selection_fields offer.selection ++ odds_text offer.odds.thousandths ∷ decimal offer.limit ∷ []))
 
+-- match NAME offers N
+abbrev pub match_line : MatchPart → List ℕ
+match_line part = line_of (codes "match" ∷ part.match_name ∷ codes "offers" ∷ decimal (length part.sheet) ∷ [])
+
+-- finding FINDING
+abbrev pub finding_line : Finding → List ℕ
+finding_line finding = line_of (codes "finding" ∷ finding_text finding ∷ [])
+
+-- a match, each of its offers, and its finding
 abbrev pub match_lines : MatchPart → List ℕ
-match_lines part = line_of (codes "match" ∷ part.match_name ∷ codes "offers" ∷ decimal (length part.sheet) ∷ [])
-    ++ flat_map offer_line part.sheet
-    ++ line_of (codes "finding" ∷ finding_fields part.finding)
+match_lines part = match_line part ++ (flat_map offer_line part.sheet ++ finding_line part.finding)
 
--- a feed that was read to its end without a refusal
-abbrev pub feed_line : ℕ × FeedPart → List ℕ
-feed_line numbered = let feed = numbered.1 in line_of (codes "feed" ∷ decimal numbered.0 ∷ feed.book ∷ rule_text feed.rule
-    ∷ codes "lines" ∷ decimal feed.lines ∷ codes "refused" ∷ decimal 0 ∷ codes "end" ∷ [])
+abbrev pub title_line : List ℕ
+title_line = line_of (codes "arbscan" ∷ codes "report" ∷ decimal 1 ∷ [])
 
--- the report of these feeds and matches, and of this budget of pivots
+abbrev pub pivots_line : ℕ → List ℕ
+pivots_line pivots = line_of (codes "pivots" ∷ decimal pivots ∷ [])
+
+abbrev pub end_line : List ℕ
+end_line = line_of (codes "end" ∷ [])
+
+-- the report of this budget of pivots, these feeds and these matches
 unfoldable pub report_text : ℕ → List FeedPart → List MatchPart → List ℕ
-report_text pivots feeds matches = line_of (codes "arbscan" ∷ codes "report" ∷ decimal 1 ∷ [])
-    ++ line_of (codes "pivots" ∷ decimal pivots ∷ [])
-    ++ flat_map feed_line (enumerate_from 0 feeds)
-    ++ flat_map match_lines matches
-    ++ line_of (codes "end" ∷ [])
+report_text pivots feeds matches =
+    title_line ++ (pivots_line pivots ++ (flat_map feed_lines (enumerate_from 0 feeds) ++ (flat_map match_lines matches ++ end_line)))
 
--- the matches are those that some feed quoted, rising by the bytes of their names, each with its sheet
-pub record AreMatchesOf (feeds : List FeedPart) (matches : List MatchPart) : Type 0 where
+-- the matches
+
+-- the matches are those that some feed quoted, rising by the bytes of their names, each with its sheet and the finding of that sheet
+pub record AreMatchesOf (budget : ℕ) (feeds : List SeenFeed) (matches : List MatchPart) : Type 0 where
   pub rising : AllPairs (λ a b. slice_cmp nat_cmp a.match_name b.match_name ≡ ordering.Less) matches
   pub quoted : (match_name : List ℕ) → IsQuoted feeds match_name → Any (λ part. part.match_name ≡ match_name) matches
   pub only : All (λ part. IsQuoted feeds part.match_name) matches
-  pub sheets : All (λ part. IsSheetOf (rules_of feeds) (lines_of feeds) part.match_name part.sheet) matches
+  pub sheets : All (λ part. part.sheet ≡ sheet_of feeds part.match_name) matches
+  pub found : All (λ part. IsFindingOf part.sheet budget part.finding) matches
 
--- the matches are those of the feeds, each with the finding of its sheet
-pub record AreFoundMatches (feeds : List FeedPart) (matches : List MatchPart) : Type 0 where
-  pub quoted : AreMatchesOf feeds matches
-  pub found : All (λ part. IsFirstFinding part.sheet part.finding) matches
-
--- the report of these feeds: each match that a feed quoted has the sheet of what stands on it and the finding of that sheet,
--- and each verdict is right at every final score and every abandonment; no finding of this stage comes from pivots
-pub record IsReport (feeds : List FeedPart) (report : List ℕ) : Type 0 where
+-- the bytes are the report of these feeds with this budget of pivots for each run
+pub record IsReport (budget : ℕ) (feeds : List SeenFeed) (bytes : List ℕ) : Type 0 where
   pub matches : List MatchPart
-  pub quoted : AreMatchesOf feeds matches
-  pub found : All (λ part. IsFirstFinding part.sheet part.finding) matches
-  pub right : All (λ part. IsRightFirst part.sheet part.finding) matches
-  pub text : report ≡ report_text DEFAULT_PIVOTS feeds matches
+  pub are : AreMatchesOf budget feeds matches
+  pub text : bytes ≡ report_text budget (map (λ seen. seen.part) feeds) matches

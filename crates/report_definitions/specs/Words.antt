@@ -1,31 +1,21 @@
 -- How a report spells what it names. Fields are separated by one space, and each line ends with a line feed.
-use Rattle.std.specs.Prelude.{ℕ, ◌+◌, ◌*◌, ◌/◌, ◌%◌, ℤ, pos, negsuc, List, [], ◌∷◌, ◌++◌, codes, decimal}
+use Rattle.std.specs.Prelude.{ℕ, List, [], ◌∷◌, ◌++◌, codes}
 use Rattle.std.specs.List.{join_with_byte}
 use Rattle.scan_types.specs.declared.selection.Selection.{Selection}
 use Rattle.scan_types.specs.declared.selection.Selection.TheVariants.{Home, Draw, Away, HandicapHome, HandicapAway, Over, Under}
 use Rattle.scan_types.specs.declared.rule.VoidRule.{VoidRule}
 use Rattle.scan_types.specs.declared.rule.VoidRule.TheVariants.{Void, Score, Decided}
+use Rattle.number_definitions.specs.Spellings.{quarters_text, handicap_text}
+use Rattle.feed_definitions.specs.declared.cause.Cause.{Cause}
+use Rattle.feed_definitions.specs.declared.cause.Cause.TheVariants as cause
+use Rattle.board_definitions.specs.declared.event.FeedStop.{FeedStop}
+use Rattle.board_definitions.specs.declared.event.FeedStop.TheVariants as stop
 
+-- a line of these fields
 abbrev pub line_of : List (List ℕ) → List ℕ
 line_of fields = join_with_byte 32 fields ++ 10 ∷ []
 
--- the last digit of a number
-abbrev pub last_digit : ℕ → ℕ
-last_digit n = 48 + n % 10
-
--- odds in thousandths, with exactly three decimals
-abbrev pub odds_text : ℕ → List ℕ
-odds_text n = decimal (n / 1000) ++ 46 ∷ last_digit (n / 100) ∷ last_digit (n / 10) ∷ last_digit n ∷ []
-
--- quarters of a goal, with exactly two decimals
-abbrev pub quarters_text : ℕ → List ℕ
-quarters_text n = decimal (n / 4) ++ 46 ∷ last_digit (25 * (n % 4) / 10) ∷ last_digit (25 * (n % 4)) ∷ []
-
--- the same, with a minus sign only below zero
-abbrev pub handicap_text : ℤ → List ℕ
-handicap_text (pos n) = quarters_text n
-handicap_text (negsuc n) = 45 ∷ quarters_text (1 + n)
-
+-- a selection: its market, its line if the market has lines, and its side
 abbrev pub selection_fields : Selection → List (List ℕ)
 selection_fields Home = codes "1x2" ∷ codes "home" ∷ []
 selection_fields Draw = codes "1x2" ∷ codes "draw" ∷ []
@@ -35,7 +25,34 @@ selection_fields (HandicapAway line) = codes "ah" ∷ handicap_text line.quarter
 selection_fields (Over line) = codes "total" ∷ quarters_text line.quarters ∷ codes "over" ∷ []
 selection_fields (Under line) = codes "total" ∷ quarters_text line.quarters ∷ codes "under" ∷ []
 
+-- how a book settles abandoned matches
 abbrev pub rule_text : VoidRule → List ℕ
 rule_text Void = codes "void"
 rule_text Score = codes "score"
 rule_text Decided = codes "decided"
+
+-- how a feed ended; the last two occur in no report, and a feed without a header has no word anywhere
+abbrev pub stop_text : FeedStop → List ℕ
+stop_text stop.End = codes "end"
+stop_text stop.Cut = codes "cut"
+stop_text stop.ReadFault = codes "fault"
+stop_text stop.NoMemory = codes "memory"
+stop_text stop.BadHeader = []
+
+-- why a line was refused
+abbrev pub cause_text : Cause → List ℕ
+cause_text cause.Missing = codes "Missing"
+cause_text cause.Extra = codes "Extra"
+cause_text cause.UnknownWord = codes "UnknownWord"
+cause_text cause.BadName = codes "BadName"
+cause_text cause.BadLine = codes "BadLine"
+cause_text cause.LineRange = codes "LineRange"
+cause_text cause.BadOdds = codes "BadOdds"
+cause_text cause.OddsRange = codes "OddsRange"
+cause_text cause.BadLimit = codes "BadLimit"
+cause_text cause.LimitRange = codes "LimitRange"
+cause_text cause.TooLong = codes "TooLong"
+cause_text cause.NotAscii = codes "NotAscii"
+cause_text cause.TooManyMatches = codes "TooManyMatches"
+cause_text cause.TooManyOffers = codes "TooManyOffers"
+cause_text cause.NotQuoted = codes "NotQuoted"

@@ -1,13 +1,17 @@
-//! What a report says of the feeds that were read.
+//! The report of any feeds: what a report sees of them, which matches it has, the sheet of each and its finding, and the text. A run of
+//! threads, the history of a board and its versions do not occur here.
 //!
-//! - `read_feed`, `match_part`: a feed that was read to its end, and a match with its sheet and its finding.
+//! - `feed_part`, `match_part`, `report`: what a report says of a feed and of a match, and the whole of it.
 //!
-//! The definitions stand in `specs`: `Standing` (what stands of each match after all accepted lines), `Words` (how a report spells
-//! what it names) and `Report` (the report as a text).
+//! The definitions stand in `specs`: `Stops` (how a feed of a report may end), `Seen` (the feeds, and what stands on a match), `Words`
+//! (how a report spells what it names) and `Report` (the matches, their findings, and the text).
 #![tactic(auto)]
 
+mod feed_part;
 mod match_part;
-mod read_feed;
+mod report;
 
-pub use match_part::MatchPart;
-pub use read_feed::ReadFeed;
+pub use feed_part::{FeedPart, FeedParts};
+pub use feed_definitions::Refusals;
+pub use match_part::{MatchPart, MatchParts};
+pub use report::Report;

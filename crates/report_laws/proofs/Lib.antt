@@ -1,1 +1,4 @@
+mod Orders
 mod Matches
+pub mod Through
+pub mod Boards

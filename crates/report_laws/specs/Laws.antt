@@ -1,22 +1,20 @@
-use Rattle.std.specs.Prelude.{ℕ, ◌≡◌, List}
+-- A report as a function of feeds and budget.
+use Rattle.std.specs.Prelude.{ℕ, ◌≡◌, List, All}
+use Rattle.finding_definitions.specs.Findings.{IsRight}
 use Rattle.report_definitions.specs.declared.match_part.MatchPart.{MatchPart}
-use Rattle.report_definitions.specs.Standing.{FeedPart}
-use Rattle.report_definitions.specs.Report.{report_text, AreFoundMatches, IsReport}
+use Rattle.report_definitions.specs.Seen.{SeenFeed}
+use Rattle.report_definitions.specs.Report.{AreMatchesOf, IsReport}
 
--- feeds have at most one list of matches with sheets and findings
+-- feeds with a budget have at most one list of matches with sheets and findings
 abbrev pub OneListOfMatches : Type 0
-OneListOfMatches =
-    (feeds : List FeedPart) (xs ys : List MatchPart) → AreFoundMatches feeds xs → AreFoundMatches feeds ys → xs ≡ ys
+OneListOfMatches = (budget : ℕ) (feeds : List SeenFeed) (matches others : List MatchPart) →
+    AreMatchesOf budget feeds matches → AreMatchesOf budget feeds others → matches ≡ others
 
--- the text is that of the feeds, their matches and this budget of pivots
-abbrev pub IsReportText : ℕ → List FeedPart → List ℕ → Type 0
-IsReportText pivots feeds text = (matches : List MatchPart) × AreFoundMatches feeds matches × (text ≡ report_text pivots feeds matches)
-
--- feeds have at most one such text
-abbrev pub OneText : Type 0
-OneText =
-    (pivots : ℕ) (feeds : List FeedPart) (text other : List ℕ) → IsReportText pivots feeds text → IsReportText pivots feeds other → text ≡ other
-
--- feeds have at most one report
+-- feeds with a budget have at most one report
 abbrev pub OneReport : Type 0
-OneReport = (feeds : List FeedPart) (report other : List ℕ) → IsReport feeds report → IsReport feeds other → report ≡ other
+OneReport = (budget : ℕ) (feeds : List SeenFeed) (bytes other : List ℕ) → IsReport budget feeds bytes → IsReport budget feeds other → bytes ≡ other
+
+-- what each finding says of its sheet is so
+abbrev pub FindingsAreRight : Type 0
+FindingsAreRight = (budget : ℕ) (feeds : List SeenFeed) (matches : List MatchPart) → AreMatchesOf budget feeds matches →
+    All (λ part. IsRight part.sheet part.finding) matches

@@ -1,28 +1,18 @@
-//! The desk: from the words of the command line to the report.
+//! The top call: what the program does with the words of its command line.
 //!
-//! - `program`: `desk`, the top call, with the theorem of the whole program.
-//! - `words`: which feeds the words name.
-//! - `opening`: a source for each named feed.
-//! - `reading`, `readings`: one feed to its end, and one feed after another; `feed_end` is how a feed ended.
-//! - `ending`: what is due after the feeds were read: the report, or an error line of `texts`.
-//! - `writing`: writing what is due; `status`: the exit statuses.
+//! - `program`: `desk`, which reads the words and runs their command, with the theorem of the whole program.
+//! - `process`: from the arguments of the process to its exit status.
 //!
-//! Every text is made in memory before any of it is written, so want of memory leaves no part of a report behind.
+//! A command joins by its arm in `program` and its case in `specs/Desk`.
 #![tactic(auto)]
 
-mod ending;
-mod feed_end;
-mod opening;
+mod process;
 mod program;
-mod reading;
-mod readings;
-pub mod status;
-mod texts;
-mod words;
-mod writing;
 
-pub use feed_end::{FeedEnd, FeedStop};
-pub use program::{DeskEnd, desk};
+pub use desk_definitions::{DeskEnd, FeedEnd, status};
+pub use desk_once::once;
+pub use process::exit_code;
+pub use program::desk;
 
 #[cfg(test)]
 mod tests;

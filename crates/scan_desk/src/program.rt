@@ -1,144 +1,158 @@
-//! The top call: everything that the program does.
-
-ghost use Rattle.std.specs.Prelude.{ℕ, ◌≡◌, ◌≢◌, ◌<◌, ◌≤◌, ◌⊎◌, List, [], All, Option, map, string_bytes};
-ghost use Rattle.std.specs.VecDeque.{deque_len};
-ghost use Rattle.scan_desk.specs.Opening.{AreOpened};
-ghost use Rattle.std.specs.Io.KnownBytes.{Keeps};
+//! The top call.
+ghost use Rattle.std.specs.Prelude.{ℕ, ◌≡◌, ◌≢◌, ◌<◌, ◌⊎◌, List, [], length, map, string_bytes};
+ghost use Rattle.clap.specs.Words.{Text};
+ghost use Rattle.board_definitions.specs.declared.event.FeedStop.TheVariants as stops;
 ghost use Rattle.desk_io.specs.Faults.{Rose};
-ghost use Rattle.scan_desk.specs.Words.{named_feeds};
-ghost use Rattle.scan_desk.specs.Told.{NameMissingFeed};
-ghost use Rattle.scan_desk.specs.PlainFeeds.{NamePlainFeeds};
-ghost use Rattle.scan_desk.specs.Readings.{StopsAtLast};
-ghost use Rattle.scan_desk.specs.Desk.{opener_seen, sink_seen, IsCourse, IsCourseOfRun, IsReported, IsOrYields, HasNoFault};
+ghost use Rattle.desk_words.specs.Commands.{IsNoCommand};
+ghost use Rattle.desk_words.specs.WellFormed.{AreOnceWords};
+ghost use Rattle.desk_definitions.specs.declared.status.TheConstants.{DONE, NO_COMMAND, NOT_OPENED, NOT_READ, NOT_WRITTEN, BAD_HEADER, WANT_OF_MEMORY, CUT};
+ghost use Rattle.desk_definitions.specs.Texts.{no_command};
+ghost use Rattle.desk_definitions.specs.Seen.{opener_seen, sink_seen, IsWritten};
+ghost use Rattle.desk_definitions.specs.Opening.{FailsAt, LacksSource, told_bytes};
+ghost use Rattle.desk_definitions.specs.Course.{IsUnbegun, WritesNothing};
+ghost use Rattle.desk_definitions.specs.Causes.{AreGoodFeeds, EndsWithout, HasFailedRead, HasNoFault, HaveRun, HaveTwins, IsOrYields, IsReported, NoneStops, SomeStop};
+ghost use Rattle.desk_runs.specs.Histories.{HasWholeHistory};
+ghost use Rattle.scan_desk.specs.Desk.{AsksOnce, IsDeskCourse};
 
-use crate::ending::due;
-use crate::feed_end::{FeedEnd, FeedStop};
-use crate::opening::{NotOpened, open_all};
-use crate::readings::{Readings, read_all};
-use crate::status::{NO_COMMAND, NOT_OPENED, WANT_OF_MEMORY};
-use crate::texts::cannot_be_opened;
-use crate::words::named_feeds;
-use crate::writing::{write_due, write_text};
+use desk_definitions::DeskEnd;
 use desk_io::{Opener, Sink, Source};
+use desk_runs::{bodies_are_in_the_history, statuses_have_causes};
+use desk_once::once;
+use desk_texts::status::{NO_COMMAND, WANT_OF_MEMORY};
+use desk_texts::write_text;
+use desk_words::laws::no_command_has_a_cause;
+use desk_words::{Command, FeedNames, WordsFault, read_words};
 use std::alloc::Global;
-use std::collections::VecDeque;
 
-/// How a run ended.
-#[derive(Drop)]
-pub struct DeskEnd<S: Drop> {
-    /// The exit status, one of those in `status`.
-    pub status: u8,
-    /// The ends of the feeds that were begun, in order.
-    pub feeds: Vec<FeedEnd<S>>,
+// The end of a run that began no feed.
+fn unbegun<S: Source + Drop>(alloc: Global, status: u8) -> DeskEnd<S>
+    ensures status { result.status ≡ status }
+    ensures unbegun { IsUnbegun (record { ends = result.feeds.items; history = result.history.items }) }
+{
+    DeskEnd {
+        status,
+        history: Vec::new(alloc),
+        feeds: Vec::new(alloc),
+    }
 }
 
-/// Reads the feeds of these sources, and writes what is due.
-fn read_and_write<S: Source + Drop, K: Sink>(
-    alloc: Global,
-    sources: VecDeque<S>,
-    sink: &mut K,
-) -> DeskEnd<S>
-    requires some { 0 < deque_len sources }
-    requires few { deque_len sources ≤ 8 }
-    requires opened { AreOpened S.left S.faults (λ _. None) 0 sources.items }
-    ensures course { (told : ℕ → Option (List ℕ)) → AreOpened S.left S.faults told 0 sources.items →
-        IsCourseOfRun S.left S.faults told (deque_len sources) result.feeds.items result.status
+// Writes that the words are no command.
+fn refused<K: Sink>(sink: &mut K) -> u8
+    ensures status { (result ≡ NO_COMMAND) ⊎ (result ≡ NOT_WRITTEN) }
+    ensures written { IsWritten (record { status = NO_COMMAND; text = no_command }) result
         (sink_seen K.written K.faults sink.old sink.new) }
-    ensures promised { All S.never_fails sources.items → result.status ≢ 4 }
 {
-    match read_all(alloc, sources) {
-        Err(_) => DeskEnd {
-            status: WANT_OF_MEMORY,
-            feeds: Vec::new(alloc),
-        },
-        Ok(readings) => {
-            let Readings { ends, feeds, stop } = readings;
-            let (status, text) = due(alloc, &ends, &feeds, stop);
-            let status = write_due(sink, status, &text);
-            DeskEnd {
-                status,
-                feeds: ends,
-            }
-        }
+    write_text(sink, NO_COMMAND, b"error: the words are no command\n")
+}
+
+// What `once` is to work on.
+fn once_words(command: Command) -> (u32, FeedNames)
+    ensures { command ≡ Command.Once result.0 result.1 }
+{
+    match command {
+        Command::Once { pivots, feeds } => (pivots, feeds),
     }
 }
 
-/// What `desk` does, with its course, and what a promise that no read fails adds to it.
-fn run<O: Opener, K: Sink>(
-    alloc: Global,
-    words: &[String],
-    opener: &mut O,
-    sink: &mut K,
-) -> DeskEnd<O::S>
-    ensures course { IsCourse O.S.left O.S.faults (opener_seen O.told O.opens_told O.faults opener.old opener.new)
-        (map string_bytes words.now) result.feeds.items result.status (sink_seen K.written K.faults sink.old sink.new) }
-    ensures promised { O.promises opener.old → result.status ≢ 4 }
-{
-    let Some(names) = named_feeds(words) else {
-        return DeskEnd {
-            status: write_text(sink, NO_COMMAND, b"error: the words are no command\n"),
-            feeds: Vec::new(alloc),
-        };
-    };
-    match open_all(alloc, names, opener) {
-        Err(NotOpened::Feed(feed)) => DeskEnd {
-            status: write_due(sink, NOT_OPENED, &cannot_be_opened(alloc, feed)),
-            feeds: Vec::new(alloc),
-        },
-        Err(NotOpened::WantOfMemory) => DeskEnd {
-            status: WANT_OF_MEMORY,
-            feeds: Vec::new(alloc),
-        },
-        Ok(sources) => read_and_write(alloc, sources, sink),
-    }
-}
-
-/// Runs the command that the words name. `once FEED` or `once FEED FEED` opens the feeds in order, reads them one after another,
-/// each to its end or to the first step that stops it before, and writes their report; or one error line, with the status of its
-/// cause; or, at want of memory, nothing.
+/// Runs the command that the words name. `once [--pivots N] FEED...` opens the feeds in order, reads them one after another, each to
+/// its end or to what stops it before, judges each match that is due, and writes the report; or one error line, with the status of
+/// its cause; or, if no memory is left, nothing.
 ///
-/// Takes time in the bytes of the feeds and, for each accepted line, in the number of match names of its feed, at most 256, and
-/// in the logarithm of the number of all matches; and memory for the bytes that are read, the accepted lines and the report.
+/// The status is one of `desk_definitions::status`. Costs what `once` costs, and O(bytes of the words) for reading them.
 pub fn desk<O: Opener, K: Sink>(
     alloc: Global,
     words: &[String],
     opener: &mut O,
     sink: &mut K,
 ) -> DeskEnd<O::S>
-    // What a run does, whole: what is due for these words and feeds, and how it was written.
-    ensures course { IsCourse O.S.left O.S.faults (opener_seen O.told O.opens_told O.faults opener.old opener.new)
-        (map string_bytes words.now) result.feeds.items result.status (sink_seen K.written K.faults sink.old sink.new) }
+    // What a run is, whole: what is due for these words and feeds, how it was written, and what is handed out.
+    ensures course { IsDeskCourse O.S.left O.S.faults (map string_bytes words.now)
+        (opener_seen O.told O.opens_told O.faults opener.old opener.new)
+        (record { ends = result.feeds.items; history = result.history.items }) result.status
+        (sink_seen K.written K.faults sink.old sink.new) }
 
-    // Status 0 comes only where each named feed was read to its end; the sink then got the report of what the sources gave.
-    ensures done { result.status ≡ 0 →
-        IsReported O.S.left O.S.faults (O.told opener.old) (map string_bytes words.now) result.feeds.items
-        (K.written sink.old) (K.written sink.new) }
+    // Status 0 comes only if each named feed was read to its end; the sink then got the report of what the sources gave.
+    ensures done { result.status ≡ DONE → (pivots : ℕ) × (feeds : List Text) × AsksOnce (map string_bytes words.now) pivots feeds
+        × IsReported O.S.left O.S.faults (told_bytes (O.told opener.old) feeds) (length feeds) pivots
+        (record { ends = result.feeds.items; history = result.history.items })
+        (sink_seen K.written K.faults sink.old sink.new) }
 
-    // The converse: plain feeds of distinct books have status 0, unless an opening, a read or a write fails or memory is wanting. An
-    // opener that promised to fail only under a name that has no source left opens all of them.
-    ensures complete { NamePlainFeeds (O.told opener.old) (map string_bytes words.now) →
+    // If the bodies were read and memory was left, the history has each accepted line of each feed once and in order, with one end a feed;
+    // each finding that was filed is right for the sheet that its pin saw; and each match has a finding filed after its last change.
+    ensures history { (pivots : ℕ) (feeds : List Text) → AsksOnce (map string_bytes words.now) pivots feeds →
+        HaveRun (length feeds) result.feeds.items → result.status ≢ WANT_OF_MEMORY →
+        HasWholeHistory O.S.left O.S.faults (told_bytes (O.told opener.old) feeds) (length feeds) pivots
+        (record { ends = result.feeds.items; history = result.history.items }) }
+
+    // The converse: well-formed words with good feeds of different books give status 0, unless an opening, a read or a write fails or
+    // no memory is left. An opener that promised to fail only under a name that has no source left opens all of them.
+    ensures complete { (pivots : ℕ) (feeds : List Text) → AreOnceWords (map string_bytes words.now) pivots feeds →
+        AreGoodFeeds (told_bytes (O.told opener.old) feeds) (length feeds) →
         HasNoFault O.S.faults (opener_seen O.told O.opens_told O.faults opener.old opener.new) result.feeds.items
-        (sink_seen K.written K.faults sink.old sink.new) → (result.status ≡ 0) ⊎ (result.status ≡ 7) }
+        (sink_seen K.written K.faults sink.old sink.new) → (result.status ≡ DONE) ⊎ (result.status ≡ WANT_OF_MEMORY) }
 
-    // Each other status but 7 has its cause. Words that are no command, a named feed that the opener has no source for, a failed
-    // read and a line that is not built also have their status, unless a write fails or memory is wanting; words that are no
-    // command take none. All feeds are opened before the first is read: where one of them has no source, none is begun. With the
-    // opener's promise to fail only under a name that has no source left, a feed without a source is the one cause of status 3;
-    // with its promise that no read fails, status 4 does not come.
-    ensures no_command { result.status ≡ 2 → named_feeds (map string_bytes words.now) ≡ None }
-    ensures no_command_due { named_feeds (map string_bytes words.now) ≡ None → (result.status ≡ 2) ⊎ (result.status ≡ 5) }
-    ensures not_opened { result.status ≡ 3 → Rose (O.faults opener.old) (O.faults opener.new) }
-    ensures not_opened_missing { O.opens_told opener.old → result.status ≡ 3 →
-        NameMissingFeed (O.told opener.old) (map string_bytes words.now) }
-    ensures not_opened_due { NameMissingFeed (O.told opener.old) (map string_bytes words.now) → IsOrYields 3 result.status }
-    ensures none_begun { NameMissingFeed (O.told opener.old) (map string_bytes words.now) → result.feeds.items ≡ [] }
-    ensures not_read { result.status ≡ 4 → StopsAtLast FeedStop.ReadFault result.feeds.items }
-    ensures read_as_promised { O.promises opener.old → result.status ≢ 4 }
-    ensures not_read_due { StopsAtLast FeedStop.ReadFault result.feeds.items → IsOrYields 4 result.status }
-    ensures not_written { result.status ≡ 5 → Rose (K.faults sink.old) (K.faults sink.new) }
-    ensures no_memory { result.status ≡ 7 → Keeps (K.written sink.old) (K.written sink.new) }
-    ensures not_built { result.status ≡ 11 → StopsAtLast FeedStop.NotBuilt result.feeds.items }
-    ensures not_built_due { StopsAtLast FeedStop.NotBuilt result.feeds.items → IsOrYields 11 result.status }
+    // Status 2 comes if the words are no command, and only then. Well-formed words are never refused. If the words are no command, the
+    // opener is left as it was.
+    ensures no_command { result.status ≡ NO_COMMAND → IsNoCommand (map string_bytes words.now) }
+    ensures no_command_due { IsNoCommand (map string_bytes words.now) → IsOrYields NO_COMMAND result.status }
+    ensures well_formed { (pivots : ℕ) (feeds : List Text) → AreOnceWords (map string_bytes words.now) pivots feeds →
+        result.status ≢ NO_COMMAND }
+    ensures untouched { IsNoCommand (map string_bytes words.now) → opener.new ≡ opener.old }
+
+    // Status 3 comes only if an opening failed. It is due, and no feed is begun, if the opener has no source for one of the names. The
+    // opener's count of faults rises with no other status, but for the 5 or 7 in its place.
+    ensures not_opened { result.status ≡ NOT_OPENED → (pivots : ℕ) × (feeds : List Text)
+        × AsksOnce (map string_bytes words.now) pivots feeds
+        × (k : ℕ) × FailsAt feeds (opener_seen O.told O.opens_told O.faults opener.old opener.new) k }
+    ensures not_opened_due { (pivots : ℕ) (feeds : List Text) (k : ℕ) → AsksOnce (map string_bytes words.now) pivots feeds →
+        k < length feeds → LacksSource (O.told opener.old) feeds k → IsOrYields NOT_OPENED result.status }
+    ensures none_begun { (pivots : ℕ) (feeds : List Text) (k : ℕ) → AsksOnce (map string_bytes words.now) pivots feeds →
+        k < length feeds → LacksSource (O.told opener.old) feeds k → result.feeds.items ≡ [] }
+    ensures opener_faults { (O.faults opener.new ≡ O.faults opener.old) ⊎ IsOrYields NOT_OPENED result.status }
+
+    // Status 4 comes only if a read of a feed failed. It is due if that was while a header was read, or if the bodies were read and one of
+    // them stopped so.
+    ensures not_read { result.status ≡ NOT_READ → HasFailedRead O.S.faults result.feeds.items }
+    ensures not_read_due { (pivots : ℕ) (feeds : List Text) → AsksOnce (map string_bytes words.now) pivots feeds →
+        HaveRun (length feeds) result.feeds.items → SomeStop stops.ReadFault result.feeds.items → IsOrYields NOT_READ result.status }
+    ensures header_not_read_due { EndsWithout stops.ReadFault result.feeds.items → IsOrYields NOT_READ result.status }
+    ensures read_as_promised { O.promises opener.old → result.status ≢ NOT_READ }
+
+    // Status 5 comes if a write failed, and only then.
+    ensures not_written { result.status ≡ NOT_WRITTEN → Rose (K.faults sink.old) (K.faults sink.new) }
+    ensures else_written { result.status ≢ NOT_WRITTEN → K.faults sink.new ≡ K.faults sink.old }
+
+    // Status 6 comes if the first line of a feed is no header, or two feeds are of one book, and only then.
+    ensures bad_header { result.status ≡ BAD_HEADER → EndsWithout stops.BadHeader result.feeds.items
+        ⊎ ((pivots : ℕ) × (feeds : List Text) × AsksOnce (map string_bytes words.now) pivots feeds
+        × HaveTwins (length feeds) result.feeds.items) }
+    ensures bad_header_due { EndsWithout stops.BadHeader result.feeds.items → IsOrYields BAD_HEADER result.status }
+    ensures one_book_due { (pivots : ℕ) (feeds : List Text) → AsksOnce (map string_bytes words.now) pivots feeds →
+        HaveTwins (length feeds) result.feeds.items → IsOrYields BAD_HEADER result.status }
+
+    // Status 8 comes if the bodies were read, no read failed, and a limit of size was passed, and only then.
+    ensures cut { result.status ≡ CUT → (pivots : ℕ) × (feeds : List Text) × AsksOnce (map string_bytes words.now) pivots feeds
+        × HaveRun (length feeds) result.feeds.items × NoneStops stops.ReadFault result.feeds.items
+        × SomeStop stops.Cut result.feeds.items }
+    ensures cut_due { (pivots : ℕ) (feeds : List Text) → AsksOnce (map string_bytes words.now) pivots feeds →
+        HaveRun (length feeds) result.feeds.items → NoneStops stops.ReadFault result.feeds.items →
+        SomeStop stops.Cut result.feeds.items → IsOrYields CUT result.status }
+
+    // At status 7 nothing was written.
+    ensures no_memory { result.status ≡ WANT_OF_MEMORY → WritesNothing (sink_seen K.written K.faults sink.old sink.new) }
 {
-    run(alloc, words, opener, sink)
+    prove!({
+        no_command_has_a_cause();
+        statuses_have_causes::<O, K>();
+        bodies_are_in_the_history::<O, K>();
+        true
+    });
+    match read_words(alloc, words) {
+        Ok(command) => {
+            let (pivots, feeds) = once_words(command);
+            once(alloc, feeds.names(), pivots, opener, sink)
+        }
+        Err(WordsFault::NoCommand) => unbegun(alloc, refused(sink)),
+        Err(WordsFault::WantOfMemory) => unbegun(alloc, WANT_OF_MEMORY),
+    }
 }

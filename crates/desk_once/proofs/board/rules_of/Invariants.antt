@@ -1,7 +1,7 @@
 use Rattle.std.proofs.Common.{◌≡◌, map}
 use Rattle.std.specs.Prelude.{take}
 use Rattle.scan_types.specs.declared.rule.VoidRule.{VoidRule}
-use Rattle.feed_text.specs.declared.header.Header.{Header}
+use Rattle.feed_definitions.specs.declared.header.Header.{Header}
 use Rattle.desk_once.proofs.board.rules_of.Given as goal
 
 abbrev pub invariant-loop-header : goal.invariant-loop-header

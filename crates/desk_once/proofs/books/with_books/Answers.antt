@@ -1,7 +1,7 @@
 use Rattle.std.proofs.Common.{ℕ, List, Option, None, [], ◌≡◌, ◌≢◌, ◌≤◌, ◌+◌, ◌∙◌, length, map, sym, ap, subst, refl, arith}
 use Rattle.std.specs.Prelude.{All}
 use Rattle.board_definitions.specs.declared.event.FeedStop.TheVariants as stops
-use Rattle.feed_text.specs.declared.header.Header.{Header}
+use Rattle.feed_definitions.specs.declared.header.Header.{Header}
 use Rattle.scan_types.specs.declared.rule.VoidRule.{VoidRule}
 use Rattle.board_definitions.specs.declared.event.Entry.{Entry}
 use Rattle.desk_opening.specs.declared.begun.Begun.{Begun}

@@ -1,9 +1,9 @@
 use Rattle.std.proofs.Common.{ℕ, List, Option, None, ◌≡◌, ◌≤◌, length, ◌+◌, ◌++◌, ◌∙◌, sym, ap, subst, refl, arith, ◌⊎◌}
 use Rattle.std.specs.Prelude.{All, IsSome, IsTrue, take, drop}
 use Rattle.scan_types.specs.declared.rule.VoidRule.{VoidRule}
-use Rattle.report_text.specs.Stops.{is_reported}
-use Rattle.report_text.specs.Report.{IsReport}
-use Rattle.report_text_laws.specs.Boards.{HoldsLinesOf}
+use Rattle.report_definitions.specs.Stops.{is_reported}
+use Rattle.report_definitions.specs.Report.{IsReport}
+use Rattle.report_laws.specs.Boards.{HoldsLinesOf}
 use Rattle.desk_definitions.specs.declared.status.TheConstants.{WANT_OF_MEMORY}
 use Rattle.board_definitions.specs.declared.event.Entry.{Entry}
 use Rattle.board_definitions.specs.Pins.{HasNoPin}

@@ -1,6 +1,6 @@
 use Rattle.std.proofs.Common.{◌≡◌, map}
 use Rattle.std.specs.Prelude.{take}
-use Rattle.feed_text.specs.declared.header.Header.{Header}
+use Rattle.feed_definitions.specs.declared.header.Header.{Header}
 use Rattle.desk_opening.specs.declared.begun.Begun.{Begun}
 use Rattle.desk_once.proofs.opened.headers_of.Given as goal
 

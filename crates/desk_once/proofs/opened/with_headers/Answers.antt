@@ -1,5 +1,5 @@
 use Rattle.std.proofs.Common.{ℕ, List, ◌≡◌, length, map, sym, ap, subst, refl, ◌∙◌}
-use Rattle.feed_text.specs.declared.header.Header.{Header}
+use Rattle.feed_definitions.specs.declared.header.Header.{Header}
 use Rattle.desk_definitions.specs.Seen.{sink_seen}
 use Rattle.desk_definitions.specs.Course.{Outcome}
 use Rattle.desk_opening.specs.Twins.{AreFirstTwinBooks, books_of}

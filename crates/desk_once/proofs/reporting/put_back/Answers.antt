@@ -1,7 +1,7 @@
 use Rattle.std.proofs.Common.{◌≡◌, ℕ, ◌+◌, ◌<◌, ◌≤◌, length, map, zip, take, drop, get_or, sym, ap, ap₂, ◌∙◌, arith}
 use Rattle.std.proofs.lemmas.List.{length-map, get_or-map, get_or-drop, drop-drop, drop-set-lt, take_all, append-nil}
 use Rattle.std.proofs.lemmas.Slice.Zip.{length-zip, get_or-zip}
-use Rattle.report_text.specs.declared.feed_part.FeedPart.{FeedPart}
+use Rattle.report_definitions.specs.declared.feed_part.FeedPart.{FeedPart}
 use Rattle.desk_once.specs.Reports.{filled}
 use Rattle.desk_once.proofs.InPlace.{written_read, written_step, written_all}
 use Rattle.desk_once.proofs.reporting.put_back.Goals as goal

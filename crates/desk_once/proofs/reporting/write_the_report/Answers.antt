@@ -1,8 +1,8 @@
 use Rattle.std.proofs.Common.{◌≡◌, List, inl, inr, length, map, zip, refl, sym, ap, ap₂, ◌∙◌, subst}
 use Rattle.std.proofs.lemmas.List.{length-map}
 use Rattle.std.proofs.lemmas.Slice.Zip.{AllZip-long}
-use Rattle.report_text.specs.declared.feed_part.FeedPart.{FeedPart}
-use Rattle.report_text.specs.Report.{report_text}
+use Rattle.report_definitions.specs.declared.feed_part.FeedPart.{FeedPart}
+use Rattle.report_definitions.specs.Report.{report_text}
 use Rattle.desk_definitions.specs.Course.{status_of}
 use Rattle.desk_definitions.specs.Seen.{sink_seen}
 use Rattle.desk_once.specs.Reports.{IsPartOf, emptied, filled, IsPut}

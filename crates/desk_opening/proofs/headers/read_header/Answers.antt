@@ -1,7 +1,7 @@
 use Rattle.std.proofs.Common.{◌∙◌, not, ap, subst}
-use Rattle.feed_text.specs.declared.step.Step.{Step}
-use Rattle.feed_text.specs.Answers.{ends_feed}
-use Rattle.feed_reader.specs.Reader.{is_read_fault}
+use Rattle.feed_definitions.specs.declared.step.Step.{Step}
+use Rattle.feed_definitions.specs.Answers.{ends_feed}
+use Rattle.feed_lines.specs.Reader.{is_read_fault}
 use Rattle.desk_opening.proofs.FirstSteps.{IsFirst}
 use Rattle.desk_opening.proofs.HeaderReads.{FirstStep, first_of, is_first, header_of_feed, fault_of_feed, unread_feed, header_read}
 use Rattle.desk_opening.proofs.headers.read_header.Goals as goal

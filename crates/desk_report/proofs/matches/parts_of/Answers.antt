@@ -9,7 +9,7 @@ use Rattle.std.proofs.lemmas.List.{map-append, length-map}
 use Rattle.std.proofs.lemmas.Grind.{common_steps}
 use Rattle.desk_report.proofs.Zips.{AllZip-push_pair, length-all_zip}
 use Rattle.std.proofs.lemmas.Map.Iter.{btree_map_turn, iter_end}
-use Rattle.report_text.specs.declared.match_part.MatchPart.{MatchPart}
+use Rattle.report_definitions.specs.declared.match_part.MatchPart.{MatchPart}
 use Rattle.desk_report.specs.declared.marks.Mark.{Mark}
 use Rattle.desk_report.specs.Judged.{filed_at, IsPart}
 use Rattle.desk_report.proofs.matches.parts_of.Goals as goal

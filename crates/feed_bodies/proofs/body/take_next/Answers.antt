@@ -1,9 +1,9 @@
 use Rattle.std.proofs.Common.{List, sym, subst, ◌∙◌}
-use Rattle.feed_text.specs.declared.accepted.Accepted.{Accepted}
-use Rattle.feed_text.specs.declared.cause.Refusal.{Refusal}
+use Rattle.feed_definitions.specs.declared.accepted.Accepted.{Accepted}
+use Rattle.feed_definitions.specs.declared.cause.Refusal.{Refusal}
 use Rattle.board_definitions.specs.declared.event.FeedStop.TheVariants.{NoMemory}
 use Rattle.quote_board.specs.Views.{BoardView}
-use Rattle.feed_reader.specs.Reader.{ReaderView}
+use Rattle.feed_lines.specs.Reader.{ReaderView}
 use Rattle.feed_board_laws.specs.Bodies.{IsAcceptedAfter}
 use Rattle.feed_bodies.specs.Bodies.{IsOver}
 use Rattle.feed_bodies.proofs.Moments.{IsNext, may_take, between_next, over_stopped, over_spilt, over_full}

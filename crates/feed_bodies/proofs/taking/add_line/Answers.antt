@@ -1,5 +1,5 @@
 use Rattle.std.proofs.Common.{subst}
-use Rattle.feed_text.specs.declared.accepted.Change.{Change}
+use Rattle.feed_definitions.specs.declared.accepted.Change.{Change}
 use Rattle.desk_definitions.specs.Lines.{key_of}
 use Rattle.feed_board_laws.specs.Bodies.{lines_in, MayTake}
 use Rattle.feed_board_laws.proofs.Takes.{takes_line}

@@ -1,5 +1,5 @@
 use Rattle.std.proofs.Common.{sym, ap, ◌∙◌}
-use Rattle.feed_text.specs.Fields.{Unread}
+use Rattle.feed_definitions.specs.Fields.{Unread}
 use Rattle.feed_fields.proofs.First.{none_left, nothing_left, one_left}
 use Rattle.feed_fields.proofs.fields.Fields.end.Goals as goal
 

@@ -1,6 +1,6 @@
 use Rattle.std.proofs.Common.{sym, ap, ◌∙◌}
-use Rattle.feed_text.specs.Fields.{Unread}
-use Rattle.feed_text.specs.Forms.{is_skipped}
+use Rattle.feed_definitions.specs.Fields.{Unread}
+use Rattle.feed_definitions.specs.Forms.{is_skipped}
 use Rattle.feed_fields.proofs.First.{nothing_skipped, first_byte}
 use Rattle.feed_fields.proofs.fields.Fields.is_skipped.Goals as goal
 

@@ -1,5 +1,5 @@
 use Rattle.std.proofs.Common.{sym, ap, ◌∙◌, Ok}
-use Rattle.feed_text.specs.Fields.{Field, Unread, first_field}
+use Rattle.feed_definitions.specs.Fields.{Field, Unread, first_field}
 use Rattle.feed_fields.proofs.First.{nothing_next, parts_next}
 use Rattle.feed_fields.proofs.fields.Fields.next.Goals as goal
 

@@ -1,74 +1,87 @@
-use Rattle.std.proofs.Common.{◌≡◌, ◌<◌, ◌++◌, [], false, length, drop, inl, inr, sym, ap, ◌∙◌, subst, arith, append-nil}
-use Rattle.std.proofs.lemmas.Bool.{false≢true}
-use Rattle.feed_definitions.specs.Lines.{ended_lines, pieces}
-use Rattle.feed_definitions.specs.Views.{ends_feed}
-use Rattle.feed_lines.specs.Taking.{is_unended}
-use Rattle.feed_lines.proofs.Between.{earlier_stay, line_feed_after, answers_lines}
-use Rattle.feed_lines.proofs.reader.FeedReader.next.Given as given
+use Rattle.std.proofs.Common.{ℕ, ◌+◌, Bool, List, [], ◌∷◌, ◌++◌, length, take, sym, ap, ◌∙◌, subst, arith}
+use Rattle.std.specs.Str.{bytes_eq}
+use Rattle.std.specs.Map.{lookup}
+use Rattle.indexmap.specs.IndexMap.{get as row_at, index_map_len}
+use Rattle.feed_definitions.specs.declared.step.Step.{Step}
+use Rattle.feed_definitions.specs.Feed.{accepted_in}
+use Rattle.feed_definitions.specs.Answers.{is_open}
+use Rattle.feed_lines.specs.Rows.{IsStanding}
+use Rattle.feed_lines.specs.Reader.{steps_so, answered, drained_by}
+use Rattle.feed_lines.proofs.Between.{kept_answers, same_list, reading_so}
 use Rattle.feed_lines.proofs.reader.FeedReader.next.Goals as goal
-use Rattle.feed_lines.proofs.reader.FeedReader.next.Goals.{in-Header, in-NotBuilt, in-Unended, in_default}
 
-pub returns-in_err-reserve-clause-earlier : goal.returns-in_err-reserve-clause-earlier
-returns-in_err-reserve-clause-earlier g c =
-    let inside = c.self.inside in
-    let not_over : inside.over ≡ false = ap (λ v. v.over) c.self.view_is ∙ c.requires in
-    earlier_stay inside.taken.bytes.items inside.taken.start inside.lines inside.matches.names.items (c.self.invariant.reading not_over)
-    c.args.self.now.taken inside.taken.bytes.items [] c.args.self.now.answers
-    (sym (ap (λ v. v.taken) c.self.view_is))
-    (answers_lines c.args.self.now.answers inside.lines inside.over (ap (λ v. v.answers) c.self.view_is) not_over)
-    (sym (append-nil inside.taken.bytes.items))
+pub answer-step-requires-clause-opened : goal.answer-step-requires-clause-opened
+answer-step-requires-clause-opened g c =
+    let old = c.self.inside.taken.bytes.items in
+    let now = c.found_next-found.new.taken.bytes.items in
+    let count = c.self.inside.answers in
+    let was = c.self.inside.drained in
+    let found = drained_by c.found_next-found.result in
+    let reading = c.self.invariant.reading (ap (λ v. v.over) c.self.view_is ∙ c.requires) in
+    let same = c.in_ok-reserve-2.ensures.same in
+    let takes = c.found_next-found.ensures.goes_on.takes in
+    let kept = kept_answers old now takes.more c.self.inside.taken.start count was found
+    reading.few_lines reading.at_line (takes.appended ∙ ap (λ (l : List ℕ). l ++ takes.more) same)
+    (λ h. let k = c.found_next-found.ensures.kept h in (k.0, k.1 ∙ same)) in
+    ap (λ (l : List Step). is_open l) kept ∙ reading.opened
 
-pub returns-in_err-reserve-2-clause-earlier : goal.returns-in_err-reserve-2-clause-earlier
-returns-in_err-reserve-2-clause-earlier g c =
-    let inside = c.self.inside in
-    let not_over : inside.over ≡ false = ap (λ v. v.over) c.self.view_is ∙ c.requires in
-    earlier_stay inside.taken.bytes.items inside.taken.start inside.lines inside.matches.names.items (c.self.invariant.reading not_over)
-    c.args.self.now.taken c.reserve-2.new.self.bytes.items [] c.args.self.now.answers
-    (sym (ap (λ v. v.taken) c.self.view_is))
-    (answers_lines c.args.self.now.answers inside.lines inside.over (ap (λ v. v.answers) c.self.view_is) not_over)
-    (c.in_err-reserve-2.ensures.same ∙ sym (append-nil inside.taken.bytes.items))
+pub answer-step-requires-clause-standing : goal.answer-step-requires-clause-standing
+answer-step-requires-clause-standing g c =
+    let old = c.self.inside.taken.bytes.items in
+    let now = c.found_next-found.new.taken.bytes.items in
+    let count = c.self.inside.answers in
+    let was = c.self.inside.drained in
+    let found = drained_by c.found_next-found.result in
+    let reading = c.self.invariant.reading (ap (λ v. v.over) c.self.view_is ∙ c.requires) in
+    let same = c.in_ok-reserve-2.ensures.same in
+    let takes = c.found_next-found.ensures.goes_on.takes in
+    let kept = kept_answers old now takes.more c.self.inside.taken.start count was found
+    reading.few_lines reading.at_line (takes.appended ∙ ap (λ (l : List ℕ). l ++ takes.more) same)
+    (λ h. let k = c.found_next-found.ensures.kept h in (k.0, k.1 ∙ same)) in
+    subst (λ (l : List Step). IsStanding (row_at bytes_eq c.reserve.new.self.rows) (index_map_len c.reserve.new.self.rows) (accepted_in l)) (sym kept)
+    (subst (λ (es : List (List ℕ × List Bool)). IsStanding (λ q. lookup (bytes_eq q) es) (length es) (accepted_in (take count (steps_so was old)))) (sym c.in_ok-reserve.ensures.same) reading.standing)
 
-pub invariant_of-self-in-Header : goal.invariant_of-self-in-Header
-invariant_of-self-in-Header g c =
-    let step = c.step_at-step.ensures in
-    let goes_on : ends_feed c.step_at-step.result ≡ false = elim c.in-Header.is [ inl h ↦ ap ends_feed h.1 | inr h ↦ ap ends_feed h.1 ] in
-    record {
-      reading = λ not_over. step.reading goes_on;
-      not_drained = λ not_over. elim c.match-matches.branch [
-        | in-Unended w ↦ absurd (false≢true (sym goes_on ∙ step.drained (ap is_unended w.in-Unended.is)))
-        | in_default w ↦ w.self-is
-      ];
-      few_taken = omega (arith, ap length step.bytes, c.next_line-found.ensures.few);
-    }
-
-taken_is : (g : given.Over) (c : goal.Joined-step g) → c.match-step.self.taken ≡ c.step_at-step.new.taken.bytes.items
-taken_is g c = elim c.match-step.branch [ in-Header w ↦ ap (λ v. v.taken) w.self-is | in-NotBuilt w ↦ ap (λ v. v.taken) w.self-is ]
-
-source_is : (g : given.Over) (c : goal.Joined-step g) → c.match-step.self.source ≡ c.next_line-found.new.source
-source_is g c = elim c.match-step.branch [ in-Header w ↦ ap (λ v. v.source) w.self-is | in-NotBuilt w ↦ ap (λ v. v.source) w.self-is ]
+pub invariant_of-self-2 : goal.invariant_of-self-2
+invariant_of-self-2 g c = record {
+  reading = λ goes_on. reading_so c.is_drained-drained.result (drained_by c.found_next-found.result) c.answer-step.new.taken.bytes.items c.found_next-found.new.taken.bytes.items c.answer-step.new.taken.start (c.self.inside.answers + 1)
+      (row_at bytes_eq c.answer-step.new.standing.rows) (index_map_len c.answer-step.new.standing.rows) c.is_drained-drained.ensures c.answer-step.ensures.bytes
+      (c.answer-step.ensures.reading (sym c.ends_feed-self-inside.ensures ∙ goes_on));
+  some = λ h. omega arith;
+  few_taken = omega (arith, ap (λ (l : List ℕ). length l) c.answer-step.ensures.bytes, c.found_next-found.ensures.few);
+  few_rows = c.answer-step.ensures.few;
+}
 
 pub returns-clause-earlier : goal.returns-clause-earlier
 returns-clause-earlier g c =
-    let inside = c.self.inside in
-    let not_over : inside.over ≡ false = ap (λ v. v.over) c.self.view_is ∙ c.requires in
-    let takes = c.next_line-found.ensures.takes in
-    earlier_stay inside.taken.bytes.items inside.taken.start inside.lines inside.matches.names.items (c.self.invariant.reading not_over)
-    c.args.self.now.taken c.match-step.self.taken takes.more c.args.self.now.answers
-    (sym (ap (λ v. v.taken) c.self.view_is))
-    (answers_lines c.args.self.now.answers inside.lines inside.over (ap (λ v. v.answers) c.self.view_is) not_over)
-    (taken_is g c ∙ c.step_at-step.ensures.bytes ∙ takes.appended ∙ ap (λ l. l ++ takes.more) c.in_ok-reserve-2.ensures.same)
+    let old = c.self.inside.taken.bytes.items in
+    let now = c.found_next-found.new.taken.bytes.items in
+    let count = c.self.inside.answers in
+    let was = c.self.inside.drained in
+    let found = drained_by c.found_next-found.result in
+    let reading = c.self.invariant.reading (ap (λ v. v.over) c.self.view_is ∙ c.requires) in
+    let same = c.in_ok-reserve-2.ensures.same in
+    let takes = c.found_next-found.ensures.goes_on.takes in
+    let kept = kept_answers old now takes.more c.self.inside.taken.start count was found
+    reading.few_lines reading.at_line (takes.appended ∙ ap (λ (l : List ℕ). l ++ takes.more) same)
+    (λ h. let k = c.found_next-found.ensures.kept h in (k.0, k.1 ∙ same)) in
+    ap (λ (n : ℕ). take n (steps_so c.is_drained-drained.result c.answer-step.new.taken.bytes.items)) (sym (ap (λ v. v.answers) c.self.view_is))
+    ∙ same_list count c.is_drained-drained.result found c.answer-step.new.taken.bytes.items now c.is_drained-drained.ensures c.answer-step.ensures.bytes
+    ∙ kept
+    ∙ ap (λ v. answered v) c.self.view_is
 
-pub returns-clause-no_read : goal.returns-clause-no_read
-returns-clause-no_read g c = λ more_lines.
-    let inside = c.self.inside in
-    let reserved = c.in_ok-reserve-2.ensures in
-    let not_over : inside.over ≡ false = ap (λ v. v.over) c.self.view_is ∙ c.requires in
-    let answers_are = answers_lines c.args.self.now.answers inside.lines inside.over (ap (λ v. v.answers) c.self.view_is) not_over in
-    let taken_was : inside.taken.bytes.items ≡ c.args.self.now.taken = ap (λ v. v.taken) c.self.view_is in
-    let here : inside.lines < length (ended_lines inside.taken.bytes.items) = rw taken_was (subst (λ n. n < length (ended_lines c.args.self.now.taken)) answers_are more_lines) in
-    let feed = line_feed_after inside.taken.bytes.items inside.taken.start inside.lines inside.matches.names.items (c.self.invariant.reading not_over) here in
-    let feed_now : 1 < length (pieces (drop c.reserve-2.new.self.start c.reserve-2.new.self.bytes.items)) = rw (reserved.start, reserved.same) feed in
-    let kept = c.next_line-found.ensures.no_read feed_now in (
-      taken_is g c ∙ c.step_at-step.ensures.bytes ∙ kept.0 ∙ reserved.same ∙ taken_was,
-      source_is g c ∙ kept.1 ∙ ap (λ v. v.source) c.self.view_is,
-    )
+pub returns-clause-answered : goal.returns-clause-answered
+returns-clause-answered g c =
+    let old = c.self.inside.taken.bytes.items in
+    let now = c.found_next-found.new.taken.bytes.items in
+    let count = c.self.inside.answers in
+    let was = c.self.inside.drained in
+    let found = drained_by c.found_next-found.result in
+    let reading = c.self.invariant.reading (ap (λ v. v.over) c.self.view_is ∙ c.requires) in
+    let same = c.in_ok-reserve-2.ensures.same in
+    let takes = c.found_next-found.ensures.goes_on.takes in
+    let kept = kept_answers old now takes.more c.self.inside.taken.start count was found
+    reading.few_lines reading.at_line (takes.appended ∙ ap (λ (l : List ℕ). l ++ takes.more) same)
+    (λ h. let k = c.found_next-found.ensures.kept h in (k.0, k.1 ∙ same)) in
+    same_list (count + 1) c.is_drained-drained.result found c.answer-step.new.taken.bytes.items now c.is_drained-drained.ensures c.answer-step.ensures.bytes
+    ∙ c.answer-step.ensures.answer.taken
+    ∙ ap (λ (l : List Step). l ++ c.answer-step.result ∷ []) (kept ∙ ap (λ v. answered v) c.self.view_is)

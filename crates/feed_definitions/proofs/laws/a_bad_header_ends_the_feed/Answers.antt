@@ -1,0 +1,5 @@
+use Rattle.feed_definitions.proofs.Prefixes.{bad_header_ends}
+use Rattle.feed_definitions.proofs.laws.a_bad_header_ends_the_feed.Goals as goal
+
+pub returns : goal.returns
+returns c = bad_header_ends

@@ -1,6 +1,0 @@
-pub mod Splits
-pub mod Takings
-pub mod Rows
-pub mod Lines
-pub mod Answering
-pub mod Between

@@ -1,5 +1,0 @@
-use Rattle.feed_text.proofs.Prefixes.{bad_header_stays}
-use Rattle.feed_text.proofs.laws.a_bad_header_stays.Goals as goal
-
-pub returns : goal.returns
-returns c = bad_header_stays

@@ -1,5 +1,0 @@
-use Rattle.feed_text.proofs.Prefixes.{step_of_line}
-use Rattle.feed_text.proofs.laws.a_step_is_of_its_line.Goals as goal
-
-pub returns : goal.returns
-returns c = step_of_line

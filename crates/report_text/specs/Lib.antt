@@ -1,4 +1,0 @@
-pub mod Stops
-pub mod Seen
-pub mod Words
-pub mod Report

@@ -1,4 +1,0 @@
-mod Orders
-mod Matches
-pub mod Through
-pub mod Boards

@@ -1,5 +1,0 @@
-use Rattle.report_text_laws.proofs.Boards.{same_sheets, same_matches}
-use Rattle.report_text_laws.proofs.laws.a_board_of_the_lines_has_the_reports_sheets.Goals as goal
-
-pub returns : goal.returns
-returns c = record { sheets = same_sheets; matches = same_matches }

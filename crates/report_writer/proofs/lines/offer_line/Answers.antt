@@ -1,9 +1,0 @@
-use Rattle.std.proofs.Common.{◌∙◌}
-use Rattle.report_writer.proofs.Shapes.{offer_shape}
-use Rattle.report_writer.proofs.lines.offer_line.Goals as goal
-
-pub returns : goal.returns
-returns c =
-    c.push_word-3.ensures.value
-    ∙ rw (c.push_number-2.ensures.value, c.put_odds.ensures.spelled, c.push_word-2.ensures.value, c.push_selection.ensures.value, c.push_number.ensures.value, c.push_word.ensures.value, c.new-out.ensures)
-    (offer_shape c.args.offer.now)

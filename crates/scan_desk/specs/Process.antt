@@ -1,0 +1,14 @@
+-- What a run of the process is, by its arguments.
+use Rattle.std.specs.Prelude.{ℕ, List, Option, drop}
+use Rattle.clap.specs.Words.{Text}
+use Rattle.desk_definitions.specs.Seen.{OpenerSeen, SinkSeen}
+use Rattle.desk_definitions.specs.Course.{Outcome}
+use Rattle.scan_desk.specs.Desk.{IsDeskCourse}
+
+-- the words behind the program's name, which is the first argument
+abbrev pub words_of : List Text → List Text
+words_of arguments = drop 1 arguments
+
+-- the desk ran on these words, and this is the status of its end
+abbrev pub EndsWith : {S : Type 0} → (S → Option (List ℕ)) → (S → ℕ) → List Text → OpenerSeen → ℕ → SinkSeen → Type 0
+EndsWith {S} left faults words opener status sink = (out : Outcome S) × IsDeskCourse left faults words opener out status sink
