@@ -26,7 +26,7 @@ none_any : {S : Type 0} (ends : List (FeedEnd S)) → NoneStops stops.ReadFault 
 none_any [] h = refl
 none_any (end ∷ ends) h =
     or_false (is_read_fault end.stop) (list_any (λ (e : FeedEnd _). is_read_fault e.stop) ends) (not_fault end.stop (h 0 end (omega arith)))
-        (none_any ends (λ k d lt. h (suc k) d (omega (arith, lt))))
+    (none_any ends (λ k d lt. h (suc k) d (omega (arith, lt))))
 
 abbrev number : Bool → Bool → ℕ
 number a b = cond a 4 (cond b 8 0)

@@ -9,9 +9,9 @@ mod bodies;
 mod books;
 mod command;
 mod finish;
+mod headless;
 mod opened;
 mod reporting;
-mod headless;
 mod run;
 
 pub use command::once;

@@ -15,13 +15,13 @@ ghost use Rattle.desk_definitions.specs.Reads.{FeedRead, AreRead, AreSeenAs};
 ghost use Rattle.desk_definitions.specs.Course.{is_read_fault, is_cut, status_of, WritesNothing};
 ghost use Rattle.desk_once.specs.Reports.{IsPartOf, emptied, filled, IsPut};
 
+use arb_report::{FeedPart, FeedParts, MatchParts, Refusals, Report, write_report};
 use board_definitions::{FeedStop, Law};
 use desk_definitions::FeedEnd;
 use desk_definitions::status::{CUT, DONE, NOT_READ, NOT_WRITTEN, WANT_OF_MEMORY};
 use desk_io::Sink;
 use desk_report::make_matches;
 use quote_board::Board;
-use arb_report::{FeedPart, FeedParts, MatchParts, Refusals, Report, write_report};
 use scan_types::WantOfMemory;
 use std::alloc::Global;
 

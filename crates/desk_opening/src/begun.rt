@@ -1,6 +1,6 @@
 use desk_definitions::FeedEnd;
-use feed_lines::FeedReader;
 use feed_definitions::{Header, Refusal};
+use feed_lines::FeedReader;
 
 /// A feed whose header was read, and no more.
 #[derive(Drop)]

@@ -11,8 +11,8 @@ use crate::taking::{stop_of, take_step};
 use board_definitions::{FeedStop, Law};
 use desk_definitions::FeedEnd;
 use desk_io::Source;
-use feed_lines::FeedReader;
 use feed_definitions::{Header as HeaderLine, Refusals};
+use feed_lines::FeedReader;
 use quote_board::Board;
 use std::alloc::Global;
 

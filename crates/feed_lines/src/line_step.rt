@@ -13,8 +13,8 @@ ghost use Rattle.feed_lines.specs.Rows.{IsStanding};
 ghost use Rattle.feed_lines.specs.Reader.{IsInRange};
 
 use crate::standing::Standing;
-use feed_fields::{read_header, read_line};
 use feed_definitions::{Accepted, Change, Fault, LineForm, Refusal, Request, Step};
+use feed_fields::{read_header, read_line};
 use scan_types::Place;
 
 /// The refusal of the line of this number for this fault.

@@ -11,7 +11,7 @@ mod feed_part;
 mod match_part;
 mod report;
 
-pub use feed_part::{FeedPart, FeedParts};
 pub use feed_definitions::Refusals;
+pub use feed_part::{FeedPart, FeedParts};
 pub use match_part::{MatchPart, MatchParts};
 pub use report::Report;

@@ -16,8 +16,8 @@ ghost use Rattle.scan_desk.specs.Desk.{AsksOnce, IsDeskCourse};
 
 use desk_definitions::DeskEnd;
 use desk_io::{Opener, Sink, Source};
-use desk_runs::{bodies_are_in_the_history, statuses_have_causes};
 use desk_once::once;
+use desk_runs::{bodies_are_in_the_history, statuses_have_causes};
 use desk_texts::status::{NO_COMMAND, WANT_OF_MEMORY};
 use desk_texts::write_text;
 use desk_words::laws::no_command_has_a_cause;

@@ -17,9 +17,9 @@ loop-next-preserved g c =
     let old = c.loop-next.board in
     let Start : (ℕ → Option (List ℕ)) → Type 0 = λ told. AreReadSoFar left faults told c.args.board.now.fixed.rules c.args.ends.now.items c.args.begun.now.items c.args.board.now.history in
     let so_far : (told : ℕ → Option (List ℕ)) → Start told → AreReadSoFar left faults told old.fixed.rules ends (next ∷ rest) old.history =
-        λ told h. popped left faults told old.fixed.rules ends c.loop-next.begun.items next rest old.history c.in-Some.ensures.items (c.loop-next.invariant.so_far told h) in
+    λ told h. popped left faults told old.fixed.rules ends c.loop-next.begun.items next rest old.history c.in-Some.ensures.items (c.loop-next.invariant.so_far told h) in
     let read : (told : ℕ → Option (List ℕ)) → Start told → IsNextRead left faults told next.header ends c.read_next.new.ends.items old c.read_next.new.board true =
-        λ told h. c.if-not-read_next.ensures.next told ((so_far told h).others.0) in
+    λ told h. c.if-not-read_next.ensures.next told ((so_far told h).others.0) in
     let n = read none c.requires.so_far in
     let same : c.read_next.new.board.fixed ≡ old.fixed = ap (λ b. b.fixed) n.board_is in
     record {
@@ -44,9 +44,9 @@ returns-then-not-read_next-clause-bodies g c =
     let old = c.loop-next.board in
     let Start : (ℕ → Option (List ℕ)) → Type 0 = λ told. AreReadSoFar left faults told c.args.board.now.fixed.rules c.args.ends.now.items c.args.begun.now.items c.args.board.now.history in
     let so_far : (told : ℕ → Option (List ℕ)) → Start told → AreReadSoFar left faults told old.fixed.rules ends (next ∷ rest) old.history =
-        λ told h. popped left faults told old.fixed.rules ends c.loop-next.begun.items next rest old.history c.in-Some.ensures.items (c.loop-next.invariant.so_far told h) in
+    λ told h. popped left faults told old.fixed.rules ends c.loop-next.begun.items next rest old.history c.in-Some.ensures.items (c.loop-next.invariant.so_far told h) in
     let read : (told : ℕ → Option (List ℕ)) → Start told → IsNextRead left faults told next.header ends c.read_next.new.ends.items old c.read_next.new.board false =
-        λ told h. c.if-not-read_next.ensures.next told ((so_far told h).others.0) in
+    λ told h. c.if-not-read_next.ensures.next told ((so_far told h).others.0) in
     λ told h. cut_next left faults told ends c.read_next.new.ends.items next rest old c.read_next.new.board (so_far told h) (read told h)
 
 pub returns-then-not-read_next-clause-promised : goal.returns-then-not-read_next-clause-promised
@@ -65,9 +65,9 @@ returns-then-not-read_next-clause-fixed g c =
     let old = c.loop-next.board in
     let Start : (ℕ → Option (List ℕ)) → Type 0 = λ told. AreReadSoFar left faults told c.args.board.now.fixed.rules c.args.ends.now.items c.args.begun.now.items c.args.board.now.history in
     let so_far : (told : ℕ → Option (List ℕ)) → Start told → AreReadSoFar left faults told old.fixed.rules ends (next ∷ rest) old.history =
-        λ told h. popped left faults told old.fixed.rules ends c.loop-next.begun.items next rest old.history c.in-Some.ensures.items (c.loop-next.invariant.so_far told h) in
+    λ told h. popped left faults told old.fixed.rules ends c.loop-next.begun.items next rest old.history c.in-Some.ensures.items (c.loop-next.invariant.so_far told h) in
     let read : (told : ℕ → Option (List ℕ)) → Start told → IsNextRead left faults told next.header ends c.read_next.new.ends.items old c.read_next.new.board false =
-        λ told h. c.if-not-read_next.ensures.next told ((so_far told h).others.0) in
+    λ told h. c.if-not-read_next.ensures.next told ((so_far told h).others.0) in
     let n = read none c.requires.so_far in
     ap (λ b. b.fixed) n.board_is ∙ c.loop-next.invariant.fixed
 
@@ -82,9 +82,9 @@ returns-then-not-read_next-clause-headers g c =
     let old = c.loop-next.board in
     let Start : (ℕ → Option (List ℕ)) → Type 0 = λ told. AreReadSoFar left faults told c.args.board.now.fixed.rules c.args.ends.now.items c.args.begun.now.items c.args.board.now.history in
     let so_far : (told : ℕ → Option (List ℕ)) → Start told → AreReadSoFar left faults told old.fixed.rules ends (next ∷ rest) old.history =
-        λ told h. popped left faults told old.fixed.rules ends c.loop-next.begun.items next rest old.history c.in-Some.ensures.items (c.loop-next.invariant.so_far told h) in
+    λ told h. popped left faults told old.fixed.rules ends c.loop-next.begun.items next rest old.history c.in-Some.ensures.items (c.loop-next.invariant.so_far told h) in
     let read : (told : ℕ → Option (List ℕ)) → Start told → IsNextRead left faults told next.header ends c.read_next.new.ends.items old c.read_next.new.board false =
-        λ told h. c.if-not-read_next.ensures.next told ((so_far told h).others.0) in
+    λ told h. c.if-not-read_next.ensures.next told ((so_far told h).others.0) in
     let n = read none c.requires.so_far in
     sym (same_headers left faults none ends c.read_next.new.ends.items n.end next rest n.ends_are n.header_is) ∙ ap (λ xs. headers_of ends xs) (sym c.in-Some.ensures.items) ∙ c.loop-next.invariant.headers
 
@@ -99,9 +99,9 @@ returns-then-not-read_next-clause-few g c =
     let old = c.loop-next.board in
     let Start : (ℕ → Option (List ℕ)) → Type 0 = λ told. AreReadSoFar left faults told c.args.board.now.fixed.rules c.args.ends.now.items c.args.begun.now.items c.args.board.now.history in
     let so_far : (told : ℕ → Option (List ℕ)) → Start told → AreReadSoFar left faults told old.fixed.rules ends (next ∷ rest) old.history =
-        λ told h. popped left faults told old.fixed.rules ends c.loop-next.begun.items next rest old.history c.in-Some.ensures.items (c.loop-next.invariant.so_far told h) in
+    λ told h. popped left faults told old.fixed.rules ends c.loop-next.begun.items next rest old.history c.in-Some.ensures.items (c.loop-next.invariant.so_far told h) in
     let read : (told : ℕ → Option (List ℕ)) → Start told → IsNextRead left faults told next.header ends c.read_next.new.ends.items old c.read_next.new.board false =
-        λ told h. c.if-not-read_next.ensures.next told ((so_far told h).others.0) in
+    λ told h. c.if-not-read_next.ensures.next told ((so_far told h).others.0) in
     let n = read none c.requires.so_far in
     omega (arith, ap length n.ends_are, length-append ends (n.end ∷ []), c.loop-next.invariant.few, c.in-Some.ensures.len, ap length c.in-Some.ensures.items)
 
@@ -112,8 +112,8 @@ read_next-requires-clause-board g c =
     let none : ℕ → Option (List ℕ) = λ _. None in
     let old = c.loop-next.board in
     ready_next left faults none c.loop-next.ends.items c.in-Some.next c.pop_front.new.self.items old
-        (popped left faults none old.fixed.rules c.loop-next.ends.items c.loop-next.begun.items c.in-Some.next c.pop_front.new.self.items old.history c.in-Some.ensures.items
-            (c.loop-next.invariant.so_far none c.requires.so_far))
+    (popped left faults none old.fixed.rules c.loop-next.ends.items c.loop-next.begun.items c.in-Some.next c.pop_front.new.self.items old.history c.in-Some.ensures.items
+    (c.loop-next.invariant.so_far none c.requires.so_far))
 
 pub read_next-requires-clause-reader : goal.read_next-requires-clause-reader
 read_next-requires-clause-reader g c =
@@ -122,4 +122,4 @@ read_next-requires-clause-reader g c =
     let none : ℕ → Option (List ℕ) = λ _. None in
     let old = c.loop-next.board in
     (popped left faults none old.fixed.rules c.loop-next.ends.items c.loop-next.begun.items c.in-Some.next c.pop_front.new.self.items old.history c.in-Some.ensures.items
-            (c.loop-next.invariant.so_far none c.requires.so_far)).others.0
+    (c.loop-next.invariant.so_far none c.requires.so_far)).others.0

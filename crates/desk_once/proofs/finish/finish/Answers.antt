@@ -47,8 +47,8 @@ write_the_report-status-requires-clause-findings g c =
     let rules = c.args.board.fixed.rules in
     let reads = c.requires.bodies.0 in
     judged_findings rules (findings_with c.args.pivots) (c.len.result + 1) ends reads c.judge_due.new.board.history
-        (moved_all rules c.new-bench.result c.args.pivots (c.len.result + 1) (c.len.result + 1) c.args.board.history (bodies_of 0 ends reads) c.judge_due.new.board.history c.judge_due.new.board.history
-        c.new-bench.ensures refl c.requires.bodies.2 refl c.in-Ok.ensures.judged)
+    (moved_all rules c.new-bench.result c.args.pivots (c.len.result + 1) (c.len.result + 1) c.args.board.history (bodies_of 0 ends reads) c.judge_due.new.board.history c.judge_due.new.board.history
+    c.new-bench.ensures refl c.requires.bodies.2 refl c.in-Ok.ensures.judged)
 
 pub write_the_report-status-requires-clause-allowed : goal.write_the_report-status-requires-clause-allowed
 write_the_report-status-requires-clause-allowed g c = λ offers finding found.
@@ -78,7 +78,7 @@ returns g c =
     let value : c.as_mut_slice.result.now ≡ ends = c.as_mut_slice.ensures.value in
     let same : w.new.ends ≡ ends = w.ensures.ends ∙ value in
     let back : take c.args.ends.len (w.new.ends ++ drop (length w.new.ends) ends) ≡ ends =
-        given_back c.args.ends.len w.new.ends (drop (length w.new.ends) ends) ends same (sym c.as_mut_slice.ensures.len ∙ ap length value) in
+    given_back c.args.ends.len w.new.ends (drop (length w.new.ends) ends) ends same (sym c.as_mut_slice.ensures.len ∙ ap length value) in
     let after = c.judge_due.new.board.history in
     record {
       course = λ told reads bodies start.
@@ -88,7 +88,7 @@ returns g c =
           let A : List (FeedEnd g.row.S.Denot) → Type 0 = λ xs. AreSeenAs xs reads seen in
           let H : List (Option VoidRule) → Type 0 = λ rules. HoldsLinesOf seen rules after in
           let W : List (FeedEnd g.row.S.Denot) → Type 0 = λ xs.
-              ((due : Due) × (due.status ≡ status_of xs) × IsReport c.args.pivots seen due.text × IsWritten due w.result sink) ⊎ ((w.result ≡ WANT_OF_MEMORY) × WritesNothing sink) in
+          ((due : Due) × (due.status ≡ status_of xs) × IsReport c.args.pivots seen due.text × IsWritten due w.result sink) ⊎ ((w.result ≡ WANT_OF_MEMORY) × WritesNothing sink) in
           let E : List (FeedEnd g.row.S.Denot) → Type 0 = λ xs. RunsSo left faults told (length ends) c.args.pivots (record { ends = xs; history = c.into_history-2.result.items }) w.result sink in
           let written = w.ensures.written reads seen (subst A (sym value) held.1) (subst H (ap (λ f. f.rules) (sym c.judge_due.ensures.fixed_stays)) held.2) in
           let whole = moved_all rules c.args.pivots c.args.pivots (length ends + 1) (length ends + 1) (bodies_of 0 ends reads) (bodies_of 0 ends reads) after c.into_history-2.result.items refl refl refl (sym c.into_history-2.ensures.value) judged in
@@ -102,7 +102,7 @@ returns g c =
           let A : List (FeedEnd g.row.S.Denot) → Type 0 = λ xs. AreSeenAs xs reads seen in
           let H : List (Option VoidRule) → Type 0 = λ rules. HoldsLinesOf seen rules after in
           let W : List (FeedEnd g.row.S.Denot) → Type 0 = λ xs.
-              ((due : Due) × (due.status ≡ status_of xs) × IsReport c.args.pivots seen due.text × IsWritten due w.result sink) ⊎ ((w.result ≡ WANT_OF_MEMORY) × WritesNothing sink) in
+          ((due : Due) × (due.status ≡ status_of xs) × IsReport c.args.pivots seen due.text × IsWritten due w.result sink) ⊎ ((w.result ≡ WANT_OF_MEMORY) × WritesNothing sink) in
           let written = w.ensures.written reads seen (subst A (sym value) held.1) (subst H (ap (λ f. f.rules) (sym c.judge_due.ensures.fixed_stays)) held.2) in
           report_promised ends c.args.pivots w.result seen sink none (subst W value written);
     }

@@ -9,7 +9,7 @@ returns-in-Ok g c =
     record {
       course = λ told h.
           let P : ℕ → Type 0 = λ n. RunsSo g.S.Source.left g.S.Source.faults told n c.args.pivots (record { ends = c.with_headers.result.feeds.items; history = c.with_headers.result.history.items })
-              c.with_headers.result.status (sink_seen g.K.Sink.written g.K.Sink.faults c.args.sink.now c.with_headers.new.sink) in
+          c.with_headers.result.status (sink_seen g.K.Sink.written g.K.Sink.faults c.args.sink.now c.with_headers.new.sink) in
           subst P count (c.with_headers.ensures.course told (c.in-Ok.ensures.headers told h));
       promised = λ never. c.with_headers.ensures.promised (c.in-Ok.ensures.promise_kept never);
     }
