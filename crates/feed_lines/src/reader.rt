@@ -37,6 +37,7 @@ fn found_next<S: Source>(taken: &mut Taken, source: &mut S, lines: u32, drained:
     ensures no_read { lines < length (ended_lines taken.old.bytes.items) → (taken.new.bytes.items ≡ taken.old.bytes.items) × (source.new ≡ source.old) }
     ensures few { length taken.new.bytes.items ≤ 4198400 }
     ensures failed { failed_by result ≡ true → Rose (S.faults source.old) (S.faults source.new) }
+    ensures no_fault { failed_by result ≡ false → S.faults source.new ≡ S.faults source.old }
     ensures promised { S.never_fails source.old → failed_by result ≡ true → ⊥ }
 {
     if drained {
@@ -163,6 +164,7 @@ impl<S: Source + Drop> FeedReader<S> {
         ensures in_range { IfOk result IsInRange }
         ensures no_read { OnOk result (self.old.answers < length (ended_lines self.old.taken) → (self.new.taken ≡ self.old.taken) × (self.new.source ≡ self.old.source)) }
         ensures fault { IfOk result (λ step. is_read_fault step ≡ true → Rose (S.faults self.old.source) (S.faults self.new.source)) }
+        ensures no_fault { IfOk result (λ step. is_read_fault step ≡ false → S.faults self.new.source ≡ S.faults self.old.source) }
         ensures promised { S.never_fails self.old.source → IfOk result (λ step. is_read_fault step ≡ false) }
         ensures bound { OnOk result (length self.new.taken ≤ 4198400) }
         ensures memory { OnErr result (self.new ≡ self.old) }

@@ -26,6 +26,7 @@ fn behind_last<S: Source>(taken: &mut Taken, source: &mut S, lines: u32) -> Next
     ensures no_read { lines < length (ended_lines taken.old.bytes.items) → (taken.new.bytes.items ≡ taken.old.bytes.items) × (source.new ≡ source.old) }
     ensures few { length taken.new.bytes.items ≤ 4198400 }
     ensures failed { failed_by result ≡ true → Rose (S.faults source.old) (S.faults source.new) }
+    ensures no_fault { failed_by result ≡ false → S.faults source.new ≡ S.faults source.old }
     ensures promised { S.never_fails source.old → failed_by result ≡ true → ⊥ }
 {
     if taken.start < taken.bytes.len() {
@@ -87,6 +88,7 @@ pub fn next_line<S: Source>(taken: &mut Taken, source: &mut S, lines: u32) -> Ne
     ensures no_read { lines < length (ended_lines taken.old.bytes.items) → (taken.new.bytes.items ≡ taken.old.bytes.items) × (source.new ≡ source.old) }
     ensures few { length taken.new.bytes.items ≤ 4198400 }
     ensures failed { failed_by result ≡ true → Rose (S.faults source.old) (S.faults source.new) }
+    ensures no_fault { failed_by result ≡ false → S.faults source.new ≡ S.faults source.old }
     ensures promised { S.never_fails source.old → failed_by result ≡ true → ⊥ }
 {
     if lines >= MOST_LINES {

@@ -1,5 +1,5 @@
 //! The bytes taken from a source.
-ghost use Rattle.std.specs.Prelude.{◌≡◌, ◌⊎◌, ◌+◌, ◌-◌, ◌<◌, ◌≤◌, [], true, length, take, drop, vec_len, vec_capacity, MatchOption, IfOk, IsOk, OnOk, OnErr};
+ghost use Rattle.std.specs.Prelude.{◌≡◌, ◌⊎◌, ◌+◌, ◌-◌, ◌<◌, ◌≤◌, [], false, true, length, take, drop, vec_len, vec_capacity, MatchOption, IfOk, IsOk, OnOk, OnErr};
 ghost use Rattle.std.specs.Io.KnownBytes.{IsAtEnd};
 ghost use Rattle.scan_types.specs.declared.limits.TheConstants.{MOST_FEED_BYTES};
 ghost use Rattle.desk_io.specs.Faults.{Rose};
@@ -91,6 +91,7 @@ impl Taken {
         ensures end { IfOk result (λ count. count ≡ 0 → IsAtEnd (S.left source.new)) }
         ensures nothing { OnErr result (self.new.bytes.items ≡ self.old.bytes.items) }
         ensures failed { OnErr result (Rose (S.faults source.old) (S.faults source.new)) }
+        ensures no_fault { OnOk result (S.faults source.new ≡ S.faults source.old) }
         ensures promised { S.never_fails source.old → IsOk result }
     {
         let mut piece = [0; READ_BYTES];
@@ -114,6 +115,7 @@ impl Taken {
             (self.new.bytes.items ≡ self.old.bytes.items) × (source.new ≡ source.old) }
         ensures few { length self.new.bytes.items ≤ 4198400 }
         ensures failed { is_failed result ≡ true → Rose (S.faults source.old) (S.faults source.new) }
+        ensures no_fault { is_failed result ≡ false → S.faults source.new ≡ S.faults source.old }
         ensures promised { S.never_fails source.old → is_failed result ≡ true → ⊥ }
     {
         let mut from = self.start;

@@ -53,6 +53,7 @@ reads-preserved g c =
         is_later = g.met.S.Source.later_transitive c.args.source.now c.reads.source c.read_more.new.source before.goes_on.is_later read.goes_on.is_later;
         promise_kept = λ p. read.goes_on.promise_kept (before.goes_on.promise_kept p);
       };
+      no_fault = read.no_fault ∙ before.no_fault;
       no_read = λ more. absurd (no_second c.args.self.now.bytes.items c.reads.self.bytes.items c.args.self.now.start c.reads.self.start (before.no_read more).0 before.start one few more);
     }
 
@@ -93,6 +94,7 @@ reads-init g c = record {
     is_later = g.met.S.Source.later_reflexive c.args.source.now;
     promise_kept = λ p. p;
   };
+  no_fault = refl;
   no_read = λ more. (refl, refl);
 }
 

@@ -19,6 +19,7 @@ invariant-reads g l =
       few : length l.self.bytes.items ≤ 4198400;
       goes_on : GoesOn (S.left l.fn.source) (S.left l.source) l.fn.self.bytes.items l.self.bytes.items
           (S.faults l.fn.source) (S.faults l.source) (S.later l.fn.source l.source) (S.never_fails l.fn.source → S.never_fails l.source);
+      no_fault : S.faults l.source ≡ S.faults l.fn.source;
       no_read : ((1 < length (pieces (drop l.fn.self.start (looked_at l.fn.self.bytes.items)))) ⊎ (MOST_FEED_BYTES < length l.fn.self.bytes.items)) →
           (l.self.bytes.items ≡ l.fn.self.bytes.items) × (l.source ≡ l.fn.source);
     }
