@@ -1,7 +1,9 @@
 -- The feeds whose headers were read, one after another.
-use Rattle.std.proofs.Common.{◌≡◌, ℕ, suc, ◌+◌, ◌<◌, not, List, [], ◌∷◌, ◌++◌, length, map, drop, Option, refl, sym, ap, ◌∙◌, subst, arith}
+use Rattle.std.proofs.Common.{◌≡◌, ◌≢◌, All, ℕ, suc, ◌+◌, ◌<◌, not, List, [], ◌∷◌, ◌++◌, length, map, drop, Option, refl, sym, ap, ◌∙◌, subst, arith}
 use Rattle.std.specs.Prelude.{Result, Ok, Err, IfOk}
 use Rattle.std.proofs.lemmas.List.{length-append}
+use Rattle.std.proofs.lemmas.List.Elements.{All-head, All-tail, All-cons, All-nil}
+use Rattle.board_definitions.specs.declared.event.FeedStop.TheVariants as feed_stops
 use Rattle.std.proofs.Math.ListN.{take-append-drop}
 use Rattle.feed_definitions.specs.declared.step.Step.TheVariants as step
 use Rattle.feed_lines.specs.Reader.{its_steps}
@@ -33,6 +35,17 @@ pub are_read_so : {S : Type 0} (left : S → Option (List ℕ)) (faults : S → 
     → AreReadSo left faults told number (begun_ends number begun) (map begun_read begun)
 are_read_so left faults told number [] h = tt
 are_read_so left faults told number (first ∷ others) h = (read_so left faults (told number) number first h.0, are_read_so left faults told (number + 1) others h.1)
+
+-- if no source of them has counted a fault, their ends have none
+pub begun_counted : {S : Type 0} (faults : S → ℕ) (number : ℕ) (begun : List (Begun S)) → All (λ feed. faults feed.reader.source ≡ 0) begun
+    → All (λ end. end.stop ≢ feed_stops.ReadFault → faults end.source ≡ 0) (begun_ends number begun)
+begun_counted {S} faults number [] h =
+    let P : FeedEnd S → Type 0 = λ end. end.stop ≢ feed_stops.ReadFault → faults end.source ≡ 0 in
+    All-nil P
+begun_counted {S} faults number (first ∷ others) h =
+    let R : Begun S → Type 0 = λ feed. faults feed.reader.source ≡ 0 in
+    let P : FeedEnd S → Type 0 = λ end. end.stop ≢ feed_stops.ReadFault → faults end.source ≡ 0 in
+    All-cons P (begun_end number first) (begun_ends (number + 1) others) (λ _. All-head R first others h) (begun_counted faults (number + 1) others (All-tail R first others h))
 
 pub length-begun_ends : {S : Type 0} (number : ℕ) (begun : List (Begun S)) → length (begun_ends number begun) ≡ length begun
 length-begun_ends number [] = refl

@@ -1,6 +1,7 @@
 //! The headers of the opened feeds.
-ghost use Rattle.std.specs.Prelude.{ℕ, List, Option, None, map, length, [], ◌≡◌, ◌+◌, ◌<◌, ◌≤◌, All, IfOk, IfErr, if◌then◌else◌};
+ghost use Rattle.std.specs.Prelude.{ℕ, List, Option, None, map, length, [], ◌≡◌, ◌≢◌, ◌+◌, ◌<◌, ◌≤◌, All, IfOk, IfErr, if◌then◌else◌};
 ghost use Rattle.std.specs.VecDeque.{deque_len};
+ghost use Rattle.board_definitions.specs.declared.event.FeedStop.TheVariants as stops;
 ghost use Rattle.desk_definitions.specs.Opening.{IsOpened, AreOpened};
 ghost use Rattle.desk_definitions.specs.Reads.{AreBegun, AreReadSo};
 ghost use Rattle.desk_opening.specs.Headers.{IsHeaderRead, AreHeadersRead, HasNone, StopsSo, IsNoReadFault, begun_end, begun_ends, begun_read};
@@ -30,6 +31,9 @@ pub fn read_headers<S: Source + Drop>(
         IfErr result (λ no. StopsSo S.left S.faults told (length sources.items) no.stop no.ends.items) }
     ensures promised { All S.never_fails sources.items → IfErr result (λ no. IsNoReadFault no.stop) }
     ensures promise_kept { All S.never_fails sources.items → IfOk result (λ begun. All (λ feed. S.never_fails feed.reader.source) begun.items) }
+    ensures fresh { All (λ source. S.faults source ≡ 0) sources.items → IfOk result (λ begun. All (λ feed. S.faults feed.reader.source ≡ 0) begun.items) }
+    ensures counted { All (λ source. S.faults source ≡ 0) sources.items →
+        IfErr result (λ no. All (λ end. end.stop ≢ stops.ReadFault → S.faults end.source ≡ 0) no.ends.items) }
 {
     let Ok(mut begun) = VecDeque::with_capacity(alloc, sources.len()) else {
         return Err(without_memory(Vec::new(alloc)));
@@ -68,6 +72,8 @@ fn stopped<S: Source + Drop>(
     ensures stop { (told : ℕ → Option (List ℕ)) (count : ℕ) → AreHeadersRead S.left told 0 begun.items → length begun.items < count →
         HasNone S.left S.faults (told (length begun.items)) (length begun.items) last.stop last.end → StopsSo S.left S.faults told count result.stop result.ends.items }
     ensures promised { IsNoReadFault last.stop → IsNoReadFault result.stop }
+    ensures counted { All (λ feed. S.faults feed.reader.source ≡ 0) begun.items → (last.end.stop ≢ stops.ReadFault → S.faults last.end.source ≡ 0) →
+        All (λ end. end.stop ≢ stops.ReadFault → S.faults end.source ≡ 0) result.ends.items }
 {
     let Ok(mut ends) = begun_ends(alloc, begun) else {
         return without_memory(Vec::new(alloc));
@@ -158,6 +164,8 @@ fn read_header<S: Source + Drop>(
     ensures stop { (told : Option (List ℕ)) → IsOpened S.left S.faults told source → IfErr result (λ no. HasNone S.left S.faults told feed no.stop no.end) }
     ensures promised { S.never_fails source → IfErr result (λ no. IsNoReadFault no.stop) }
     ensures promise_kept { S.never_fails source → IfOk result (λ begun. S.never_fails begun.reader.source) }
+    ensures fresh { S.faults source ≡ 0 → IfOk result (λ begun. S.faults begun.reader.source ≡ 0) }
+    ensures counted { S.faults source ≡ 0 → IfErr result (λ no. no.end.stop ≢ stops.ReadFault → S.faults no.end.source ≡ 0) }
 {
     let mut reader = FeedReader::new(alloc, source, feed);
     match reader.next() {

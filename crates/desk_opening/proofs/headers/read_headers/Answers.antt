@@ -36,6 +36,14 @@ loop-source-preserved g c =
             subst (All R) (sym pushed) (All-append R begun (next ∷ []) before.0 (All-cons R next [] (c.in-Ok-read_header.ensures.promise_kept (All-head g.S.Source.never_fails c.in-Some.source rest there)) (All-nil R))),
             All-tail g.S.Source.never_fails c.in-Some.source rest there,
           ));
+      counts = λ all.
+          (let before = c.loop-source.invariant.counts all in
+          let Z : g.row.S.Denot → Type 0 = λ source. g.S.Source.faults source ≡ 0 in
+          let there = subst (All Z) popped before.1 in
+          let R : Begun g.row.S.Denot → Type 0 = λ feed. g.S.Source.faults feed.reader.source ≡ 0 in (
+            subst (All R) (sym pushed) (All-append R begun (next ∷ []) before.0 (All-cons R next [] (c.in-Ok-read_header.ensures.fresh (All-head Z c.in-Some.source rest there)) (All-nil R))),
+            All-tail Z c.in-Some.source rest there,
+          ));
     }
 
 pub returns-in-Err-clause-stop : goal.returns-in-Err-clause-stop
@@ -58,3 +66,17 @@ returns-in-Err-clause-promised g c promise =
 
 pub returns-clause-headers : goal.returns-clause-headers
 returns-clause-headers g c told opened = (c.loop-source.invariant.read told opened).0
+
+pub returns-in-Err-clause-counted : goal.returns-in-Err-clause-counted
+returns-in-Err-clause-counted g c all =
+    let popped : c.loop-source.sources.items ≡ c.in-Some.source ∷ c.pop_front.new.self.items = c.in-Some.ensures.items in
+    let before = c.loop-source.invariant.counts all in
+    let Z : g.row.S.Denot → Type 0 = λ source. g.S.Source.faults source ≡ 0 in
+    let there = subst (All Z) popped before.1 in
+    c.stopped.ensures.counted before.0 (c.in-Err.ensures.counted (All-head Z c.in-Some.source c.pop_front.new.self.items there))
+
+pub returns-clause-promise_kept : goal.returns-clause-promise_kept
+returns-clause-promise_kept g c all = (c.loop-source.invariant.promises all).0
+
+pub returns-clause-fresh : goal.returns-clause-fresh
+returns-clause-fresh g c all = (c.loop-source.invariant.counts all).0

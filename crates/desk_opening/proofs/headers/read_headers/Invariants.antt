@@ -9,6 +9,7 @@ invariant-loop-source g l = record {
       AreHeadersRead g.S.Source.left told 0 l.begun.items × AreOpened g.S.Source.left g.S.Source.faults told (length l.begun.items) l.sources.items;
   count : length l.begun.items + length l.sources.items ≡ length l.fn.sources.items;
   promises : All g.S.Source.never_fails l.fn.sources.items → All (λ feed. g.S.Source.never_fails feed.reader.source) l.begun.items × All g.S.Source.never_fails l.sources.items;
+  counts : All (λ source. g.S.Source.faults source ≡ 0) l.fn.sources.items → All (λ feed. g.S.Source.faults feed.reader.source ≡ 0) l.begun.items × All (λ source. g.S.Source.faults source ≡ 0) l.sources.items;
 }
 
 abbrev pub decreases-loop-source : goal.decreases-loop-source
