@@ -15,3 +15,4 @@ pub mod NoBodies
 pub mod Promised
 pub mod Courses
 pub mod Promises
+pub mod Counts

@@ -1,4 +1,5 @@
 pub mod Bodies
+pub mod Counts
 pub mod Headless
 pub mod Outcomes
 pub mod Reports

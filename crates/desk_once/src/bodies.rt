@@ -6,6 +6,7 @@ ghost use Rattle.board_definitions.specs.declared.event.FeedStop.TheVariants as 
 ghost use Rattle.report_definitions.specs.Stops.{is_reported};
 ghost use Rattle.feed_bodies.specs.Bodies.{IsReadyFor};
 ghost use Rattle.desk_opening.specs.Headers.{IsHeaderRead, AreHeadersRead};
+ghost use Rattle.desk_once.specs.Counts.{AreCounted, AreFresh};
 ghost use Rattle.desk_once.specs.Bodies.{AreCutAt, AreReadSoFar, IsNextRead, headers_of};
 
 use board_definitions::{FeedStop, Law};
@@ -38,6 +39,7 @@ fn read_next<W: Law, S: Source + Drop>(
     ensures next { (told : ℕ → Option (List ℕ)) → IsHeaderRead S.left (told (length ends.old.items)) (length ends.old.items) next.header next.reader →
         IsNextRead S.left S.faults told next.header ends.old.items ends.new.items board.old board.new result }
     ensures promised { All (λ end. end.stop ≢ stops.ReadFault) ends.old.items → S.never_fails next.reader.source → All (λ end. end.stop ≢ stops.ReadFault) ends.new.items }
+    ensures counted { AreCounted S.faults ends.old.items → S.faults next.reader.source ≡ 0 → AreCounted S.faults ends.new.items }
     ensures room { vec_capacity ends.old ≤ vec_capacity ends.new }
 {
     let Begun { header, reader } = next;
@@ -64,6 +66,7 @@ pub(crate) fn read_while<W: Law, S: Source + Drop>(
         (AreCutAt S.left S.faults told ends.new.items begun.new.items board.new.history) }
     ensures promised { All (λ end. end.stop ≢ stops.ReadFault) ends.old.items → All (λ feed. S.never_fails feed.reader.source) begun.old.items →
         All (λ end. end.stop ≢ stops.ReadFault) ends.new.items }
+    ensures counted { AreCounted S.faults ends.old.items → AreFresh S.faults begun.old.items → AreCounted S.faults ends.new.items }
     ensures all { MatchBool result (begun.new.items ≡ []) ⊤ }
     ensures fixed { board.new.fixed ≡ board.old.fixed }
     ensures headers { headers_of ends.new.items begun.new.items ≡ headers_of ends.old.items begun.old.items }

@@ -5,6 +5,7 @@ ghost use Rattle.desk_opening.specs.Headers.{AreHeadersRead};
 ghost use Rattle.desk_opening.specs.Twins.{books_of};
 ghost use Rattle.desk_definitions.specs.declared.status.TheConstants.{NOT_READ, WANT_OF_MEMORY};
 ghost use Rattle.desk_definitions.specs.Seen.{sink_seen};
+ghost use Rattle.desk_once.specs.Counts.{AreCounted, AreFresh};
 ghost use Rattle.desk_once.specs.Outcomes.{RunsSo};
 
 use crate::board::begin_board;
@@ -50,6 +51,7 @@ pub(crate) fn with_books<S: Source + Drop, K: Sink>(
         RunsSo S.left S.faults told (length begun.items) pivots (record { ends = result.feeds.items; history = result.history.items }) result.status
         (sink_seen K.written K.faults sink.old sink.new) }
     ensures promised { All (λ feed. S.never_fails feed.reader.source) begun.items → result.status ≢ NOT_READ }
+    ensures counted { AreFresh S.faults begun.items → AreCounted S.faults result.feeds.items }
 {
     let Ok(mut board) = begin_board(alloc, headers, pivots) else {
         return without_memory(alloc);

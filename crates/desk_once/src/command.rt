@@ -1,5 +1,5 @@
 //! The command `once`.
-ghost use Rattle.std.specs.Prelude.{ℕ, ◌≡◌, ◌≢◌, ◌<◌, ◌≤◌, ◌⊎◌, [], length, map, string_bytes};
+ghost use Rattle.std.specs.Prelude.{ℕ, All, ◌≡◌, ◌≢◌, ◌<◌, ◌≤◌, ◌⊎◌, [], length, map, string_bytes};
 ghost use Rattle.scan_types.specs.declared.limits.TheConstants.{MOST_FEEDS, MOST_PIVOTS};
 ghost use Rattle.board_definitions.specs.declared.event.FeedStop.TheVariants as stops;
 ghost use Rattle.desk_io.specs.Faults.{Rose};
@@ -57,6 +57,8 @@ pub fn once<O: Opener, K: Sink>(
     ensures not_read { result.status ≡ NOT_READ → HasFailedRead O.S.faults result.feeds.items }
     ensures not_read_due { HaveRun (length names.now) result.feeds.items → SomeStop stops.ReadFault result.feeds.items →
         IsOrYields NOT_READ result.status }
+    // The source of a feed has counted no failed read, unless the feed stopped so.
+    ensures source_faults { All (λ end. end.stop ≢ stops.ReadFault → O.S.faults end.source ≡ 0) result.feeds.items }
     ensures read_as_promised { O.promises opener.old → result.status ≢ NOT_READ }
 
     // Status 5 comes only if a write failed.

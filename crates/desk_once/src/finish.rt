@@ -37,6 +37,7 @@ pub(crate) fn finish<S: Source + Drop, K: Sink>(
         HaveBodies S.left S.faults told (length ends.items) ends.items reads board.fixed.rules → board.history ≡ bodies_of 0 ends.items reads →
         RunsSo S.left S.faults told (length ends.items) pivots (record { ends = result.feeds.items; history = result.history.items }) result.status
         (sink_seen K.written K.faults sink.old sink.new) }
+    ensures ends { result.feeds.items ≡ ends.items }
     ensures promised { NoneStops stops.ReadFault ends.items → result.status ≢ NOT_READ }
 {
     let caller = ends.len() as u8 + 1;

@@ -7,6 +7,7 @@ ghost use Rattle.desk_definitions.specs.Seen.{sink_seen};
 ghost use Rattle.desk_opening.specs.Headers.{AreHeadersRead, StopsSo, IsNoReadFault};
 ghost use Rattle.desk_opening.specs.Twins.{AreFirstTwinBooks, books_of};
 ghost use Rattle.desk_once.specs.Headless.{IsSaidOf};
+ghost use Rattle.desk_once.specs.Counts.{AreCounted, AreFresh};
 ghost use Rattle.desk_once.specs.Outcomes.{RunsSo};
 
 use desk_definitions::status::{BAD_HEADER, NOT_READ, WANT_OF_MEMORY};
@@ -51,6 +52,7 @@ pub(crate) fn without_header<S: Source + Drop, K: Sink>(
     ensures course { (told : ℕ → Option (List ℕ)) (names budget : ℕ) → StopsSo S.left S.faults told names no.stop no.ends.items →
         RunsSo S.left S.faults told names budget (record { ends = result.feeds.items; history = result.history.items }) result.status
         (sink_seen K.written K.faults sink.old sink.new) }
+    ensures ends { result.feeds.items ≡ no.ends.items }
     ensures promised { IsNoReadFault no.stop → result.status ≢ NOT_READ }
 {
     let NoHeaders { ends, stop } = no;
@@ -76,6 +78,7 @@ pub(crate) fn of_one_book<S: Source + Drop, K: Sink>(
         AreFirstTwinBooks (books_of (map (λ b. b.header) begun.items)) earlier later →
         RunsSo S.left S.faults told names budget (record { ends = result.feeds.items; history = result.history.items }) result.status
         (sink_seen K.written K.faults sink.old sink.new) }
+    ensures counted { AreFresh S.faults begun.items → AreCounted S.faults result.feeds.items }
     ensures no_read_fault { result.status ≢ NOT_READ }
 {
     match begun_ends(alloc, begun) {

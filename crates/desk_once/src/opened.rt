@@ -5,6 +5,7 @@ ghost use Rattle.desk_definitions.specs.declared.status.TheConstants.{NOT_READ};
 ghost use Rattle.desk_definitions.specs.Opening.{AreOpened};
 ghost use Rattle.desk_definitions.specs.Seen.{sink_seen};
 ghost use Rattle.desk_opening.specs.Headers.{AreHeadersRead};
+ghost use Rattle.desk_once.specs.Counts.{AreCounted, AreFresh};
 ghost use Rattle.desk_once.specs.Outcomes.{RunsSo};
 ghost use Rattle.std.specs.VecDeque.{deque_len};
 
@@ -48,6 +49,7 @@ fn with_headers<S: Source + Drop, K: Sink>(
         RunsSo S.left S.faults told (length begun.items) pivots (record { ends = result.feeds.items; history = result.history.items }) result.status
         (sink_seen K.written K.faults sink.old sink.new) }
     ensures promised { All (λ feed. S.never_fails feed.reader.source) begun.items → result.status ≢ NOT_READ }
+    ensures counted { AreFresh S.faults begun.items → AreCounted S.faults result.feeds.items }
 {
     let Ok(headers) = headers_of(alloc, &begun) else {
         return without_memory(alloc);
@@ -74,6 +76,7 @@ pub(crate) fn with_sources<S: Source + Drop, K: Sink>(
         RunsSo S.left S.faults told (length sources.items) pivots (record { ends = result.feeds.items; history = result.history.items }) result.status
         (sink_seen K.written K.faults sink.old sink.new) }
     ensures promised { All S.never_fails sources.items → result.status ≢ NOT_READ }
+    ensures counted { All (λ source. S.faults source ≡ 0) sources.items → AreCounted S.faults result.feeds.items }
 {
     match read_headers(alloc, sources) {
         Ok(begun) => with_headers(alloc, pivots, begun, sink),

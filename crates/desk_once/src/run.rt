@@ -3,6 +3,7 @@ ghost use Rattle.std.specs.Prelude.{◌≡◌, ◌≢◌, ◌≤◌, length, map
 ghost use Rattle.scan_types.specs.declared.limits.TheConstants.{MOST_FEEDS, MOST_PIVOTS};
 ghost use Rattle.desk_definitions.specs.declared.status.TheConstants.{NOT_READ};
 ghost use Rattle.desk_definitions.specs.Seen.{opener_seen, sink_seen};
+ghost use Rattle.desk_once.specs.Counts.{AreCounted};
 ghost use Rattle.desk_definitions.specs.Course.{IsCourse};
 
 use crate::books::without_memory;
@@ -31,6 +32,7 @@ pub(crate) fn run<O: Opener, K: Sink>(
         (record { ends = result.feeds.items; history = result.history.items }) result.status
         (sink_seen K.written K.faults sink.old sink.new) }
     ensures promised { O.promises opener.old → result.status ≢ NOT_READ }
+    ensures counted { AreCounted O.S.faults result.feeds.items }
 {
     match open_all(alloc, names, opener) {
         Ok(sources) => with_sources(alloc, pivots, sources, sink),

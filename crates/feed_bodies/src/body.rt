@@ -30,6 +30,7 @@ fn take_next<W: Law, S: Source + Drop>(
         (λ stop. IsOver S.left S.faults feed header before board.new refusals.new reader.new stop) }
     ensures counted { IfNone result (reader.new.answers ≡ reader.old.answers + 1) }
     ensures promised { S.never_fails reader.old.source → result ≢ Some ReadFault }
+    ensures no_fault { result ≢ Some ReadFault → S.faults reader.new.source ≡ S.faults reader.old.source }
     ensures goes_on { ReadsOn S.left S.faults S.later S.never_fails reader.old reader.new }
 {
     match reader.next() {
@@ -58,6 +59,7 @@ fn read_lines<W: Law, S: Source + Drop>(
     requires reader { IsBegun S.left feed header.now reader.old }
     ensures over { IsOver S.left S.faults feed header.now board.old board.new result.0 reader.new result.1 }
     ensures promised { S.never_fails reader.old.source → result.1 ≢ ReadFault }
+    ensures no_fault { result.1 ≢ ReadFault → S.faults reader.new.source ≡ S.faults reader.old.source }
     ensures goes_on { ReadsOn S.left S.faults S.later S.never_fails reader.old reader.new }
 {
     let mut refusals = Refusals::new(alloc);
@@ -86,6 +88,7 @@ pub fn read_body<W: Law, S: Source + Drop>(
     requires reader { IsBegun S.left feed header reader }
     ensures body { IsBodyRead S.left S.faults S.later S.never_fails feed header reader result board.old board.new }
     ensures promised { S.never_fails reader.source → result.stop ≢ ReadFault }
+    ensures no_fault { result.stop ≢ ReadFault → S.faults result.source ≡ S.faults reader.source }
 {
     let mut reader = reader;
     let (refusals, stop) = read_lines(alloc, board, feed, &header, &mut reader);

@@ -1,5 +1,6 @@
 use Rattle.std.proofs.Common.{◌≡◌, ◌∙◌, ℕ, is_ok, length, true, sym, subst, rules}
 use Rattle.feed_bodies.specs.Bodies.{IsBodyRead}
+use Rattle.desk_once.proofs.Counts.{push_counted}
 use Rattle.desk_once.proofs.Promises.{pushed_promise}
 use Rattle.desk_once.proofs.BodyReads.{next_read}
 use Rattle.desk_once.proofs.bodies.read_next.Goals as goal
@@ -16,3 +17,8 @@ pub returns-clause-promised : goal.returns-clause-promised
 returns-clause-promised g c = λ none never.
     let ok : is_ok c.push-pushed.result ≡ true = sym c.if-prove.ensures.value in
     pushed_promise c.args.ends.now.items c.push-pushed.new.self.items c.read_body-end.result (rw ok at c.push-pushed.ensures.items) (c.read_body-end.ensures.promised never) none
+
+pub returns-clause-counted : goal.returns-clause-counted
+returns-clause-counted g c = λ counted fresh.
+    let ok : is_ok c.push-pushed.result ≡ true = sym c.if-prove.ensures.value in
+    push_counted g.S.Source.faults c.args.ends.now.items c.push-pushed.new.self.items c.read_body-end.result (rw ok at c.push-pushed.ensures.items) (λ stop. c.read_body-end.ensures.no_fault stop ∙ fresh) counted

@@ -2,6 +2,7 @@ use Rattle.std.proofs.Common.{◌≡◌, ◌∙◌, ℕ, Option, None, is_ok, le
 use Rattle.std.specs.Prelude.{◌∷◌}
 use Rattle.scan_types.specs.declared.rule.VoidRule.{VoidRule}
 use Rattle.desk_once.specs.Bodies.{AreReadSoFar, IsNextRead, headers_of}
+use Rattle.desk_once.proofs.Counts.{counted_on}
 use Rattle.desk_once.proofs.Promises.{promised_on}
 use Rattle.desk_once.proofs.SoFar.{cut_next, popped, same_headers, ready_next, so_far_next}
 use Rattle.desk_once.proofs.bodies.read_while.Goals as goal
@@ -28,6 +29,8 @@ loop-next-preserved g c =
       few = omega (arith, ap length n.ends_are, length-append ends (n.end ∷ []), c.loop-next.invariant.few, c.in-Some.ensures.len, ap length c.in-Some.ensures.items);
       promised = λ none never. promised_on g.S.Source.never_fails ends c.loop-next.begun.items next rest c.read_next.new.ends.items c.in-Some.ensures.items
           (c.loop-next.invariant.promised none never) c.read_next.ensures.promised;
+      counted = λ counted fresh. counted_on g.S.Source.faults ends c.loop-next.begun.items next rest c.read_next.new.ends.items c.in-Some.ensures.items
+          (c.loop-next.invariant.counted counted fresh) c.read_next.ensures.counted;
       room = omega (arith, c.loop-next.invariant.room, c.read_next.ensures.room);
       so_far = λ told h.
           let P : List (Option VoidRule) → Type 0 = λ rules. AreReadSoFar left faults told rules c.read_next.new.ends.items rest c.read_next.new.board.history in
@@ -123,3 +126,8 @@ read_next-requires-clause-reader g c =
     let old = c.loop-next.board in
     (popped left faults none old.fixed.rules c.loop-next.ends.items c.loop-next.begun.items c.in-Some.next c.pop_front.new.self.items old.history c.in-Some.ensures.items
     (c.loop-next.invariant.so_far none c.requires.so_far)).others.0
+
+pub returns-then-not-read_next-clause-counted : goal.returns-then-not-read_next-clause-counted
+returns-then-not-read_next-clause-counted g c = λ counted fresh.
+    (counted_on g.S.Source.faults c.loop-next.ends.items c.loop-next.begun.items c.in-Some.next c.pop_front.new.self.items c.read_next.new.ends.items c.in-Some.ensures.items
+    (c.loop-next.invariant.counted counted fresh) c.read_next.ensures.counted).0

@@ -12,6 +12,8 @@ use Rattle.desk_definitions.specs.Course.{Outcome, HaveBodies}
 use Rattle.desk_once.specs.Outcomes.{RunsSo}
 use Rattle.desk_once.specs.Bodies.{AreReadSoFar, AreCutAt, headers_of}
 use Rattle.desk_once.proofs.Starts.{starts, whole_bodies, cut_bodies, nothing_read}
+use Rattle.desk_once.specs.Counts.{AreCounted}
+use Rattle.desk_once.proofs.Counts.{none_counted}
 use Rattle.desk_once.proofs.Judging.{no_run, nothing_written}
 use Rattle.desk_once.proofs.books.with_books.Goals as goal
 
@@ -127,3 +129,19 @@ returns-clause-promised g c = λ never.
     let P : List (FeedEnd g.row.S.Denot) → Type 0 = λ ends. All (λ end. end.stop ≢ stops.ReadFault) ends in
     let none : P [] = λ k d h. absurd (omega (arith, h)) in
     c.finish.ensures.promised (c.read_while.ensures.promised (subst P (sym c.in-Ok-with_capacity.ensures.items) none) never)
+
+pub returns-in_default-clause-counted : goal.returns-in_default-clause-counted
+returns-in_default-clause-counted g c = λ fresh. none_counted g.S.Source.faults c.without_memory.result.feeds.items c.without_memory.ensures.feeds
+
+pub returns-in_default-with_capacity-clause-counted : goal.returns-in_default-with_capacity-clause-counted
+returns-in_default-with_capacity-clause-counted g c = λ fresh.
+    none_counted g.S.Source.faults c.without_memory-in_default-with_capacity.result.feeds.items c.without_memory-in_default-with_capacity.ensures.feeds
+
+pub returns-then-not-read_while-clause-counted : goal.returns-then-not-read_while-clause-counted
+returns-then-not-read_while-clause-counted g c = λ fresh.
+    c.read_while.ensures.counted (none_counted g.S.Source.faults c.in-Ok-with_capacity.ends.items c.in-Ok-with_capacity.ensures.items) fresh
+
+pub returns-clause-counted : goal.returns-clause-counted
+returns-clause-counted g c = λ fresh.
+    let P : List (FeedEnd g.row.S.Denot) → Type 0 = λ ends. AreCounted g.S.Source.faults ends in
+    subst P (sym c.finish.ensures.ends) (c.read_while.ensures.counted (none_counted g.S.Source.faults c.in-Ok-with_capacity.ends.items c.in-Ok-with_capacity.ensures.items) fresh)

@@ -38,6 +38,7 @@ returns-in_default g c =
       course = λ told reads bodies start. stopped_judging left faults told c.args.pivots out sink reads rules bodies (nothing_written (g.K.Sink.written c.args.sink.now) (g.K.Sink.faults c.args.sink.now))
           (moved_part rules c.new-bench.result c.args.pivots (c.len.result + 1) (length ends + 1) c.args.board.history (bodies_of 0 ends reads) c.judge_due.new.board.history c.into_history.result.items
           c.new-bench.ensures caller start (sym c.into_history.ensures.value) c.in_default.ensures.stopped);
+      ends = refl;
       promised = λ none same. absurd (cc);
     }
 
@@ -93,6 +94,7 @@ returns g c =
           let written = w.ensures.written reads seen (subst A (sym value) held.1) (subst H (ap (λ f. f.rules) (sym c.judge_due.ensures.fixed_stays)) held.2) in
           let whole = moved_all rules c.args.pivots c.args.pivots (length ends + 1) (length ends + 1) (bodies_of 0 ends reads) (bodies_of 0 ends reads) after c.into_history-2.result.items refl refl refl (sym c.into_history-2.ensures.value) judged in
           subst E (sym back) (reported left faults told c.args.pivots out sink w.result reads rules seen bodies whole held.1 (subst W value written));
+      ends = back;
       promised = λ none.
           let reads = c.requires.bodies.0 in
           let bodies = c.requires.bodies.1 in

@@ -3,6 +3,10 @@ use Rattle.desk_definitions.specs.declared.status.TheConstants.{BAD_HEADER}
 use Rattle.desk_definitions.specs.Seen.{sink_seen}
 use Rattle.desk_definitions.specs.Texts.{have_one_name}
 use Rattle.std.proofs.Common.{refl}
+use Rattle.std.proofs.Common.{List, sym, subst}
+use Rattle.desk_definitions.specs.declared.feed_end.FeedEnd.{FeedEnd}
+use Rattle.desk_once.specs.Counts.{AreCounted}
+use Rattle.desk_once.proofs.Counts.{none_counted, begun_counted}
 use Rattle.desk_once.proofs.NoBodies.{of_one_book, untouched, without_ends, written_as}
 use Rattle.desk_once.proofs.headless.of_one_book.Goals as goal
 
@@ -18,3 +22,11 @@ returns-in-Err-clause-course g c = λ told names budget begun named twins.
     let sink = sink_seen g.K.Sink.written g.K.Sink.faults c.args.sink.now c.args.sink.now in
     without_ends g.S.Source.left g.S.Source.faults told names budget c.new-in-Err-2.result.items c.new-in-Err.result.items c.new-in-Err.ensures.items 7 sink
     c.new-in-Err-2.ensures.items refl (untouched g.K.Sink.written g.K.Sink.faults c.args.sink.now)
+
+pub returns-in-Ok-clause-counted : goal.returns-in-Ok-clause-counted
+returns-in-Ok-clause-counted g c = λ fresh.
+    let P : List (FeedEnd g.row.S.Denot) → Type 0 = λ ends. AreCounted g.S.Source.faults ends in
+    subst P (sym c.in-Ok.ensures.are) (begun_counted g.S.Source.faults 0 c.args.begun.items fresh)
+
+pub returns-in-Err-clause-counted : goal.returns-in-Err-clause-counted
+returns-in-Err-clause-counted g c = λ fresh. none_counted g.S.Source.faults c.new-in-Err-2.result.items c.new-in-Err-2.ensures.items

@@ -1,4 +1,4 @@
-use Rattle.std.proofs.Common.{◌-◌}
+use Rattle.std.proofs.Common.{◌≡◌, ◌-◌}
 use Rattle.feed_bodies.specs.Bodies.{IsBetween, ReadsOn}
 use Rattle.feed_bodies.proofs.body.read_lines.Given as goal
 
@@ -6,6 +6,7 @@ use Rattle.feed_bodies.proofs.body.read_lines.Given as goal
 abbrev pub invariant-loop-stop : goal.invariant-loop-stop
 invariant-loop-stop g l = record {
   between : IsBetween g.S.Source.left l.feed l.header l.fn.board l.board l.refusals l.reader;
+  no_fault : g.S.Source.faults l.reader.source ≡ g.S.Source.faults l.fn.reader.source;
   goes_on : ReadsOn g.S.Source.left g.S.Source.faults g.S.Source.later g.S.Source.never_fails l.fn.reader l.reader;
 }
 
