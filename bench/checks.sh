@@ -3,7 +3,9 @@
 # its end: a `coherent` and a `thin` on a sheet of 256 offers. It is no part of the gate. It needs `rt`, and proves and
 # builds its program in a folder of its own: some minutes, and then a second.
 #
-#     bench/checks.sh [RUNS] [CHECKS]     RUNS runs of CHECKS checks each (20 and 100 if not given)
+#     bench/checks.sh [RUNS]     RUNS checks of each (500 if not given), timed one by one, the fastest of which counts
+#
+# A loop over one check would measure nothing: the call is pure, so the compiler makes it once.
 #
 # Eight feeds have 32 selections each: the three results, eight home and seven away handicaps, seven totals over and
 # seven under. The feeds take turns at the three rules on abandoned matches. Both verdicts weigh all 98 stand-ins, the
@@ -12,8 +14,8 @@
 # one unit, where one feed pays 2.100 on over and on under 5.5 goals.
 set -eu
 top=$(cd "$(dirname "$0")/.." && pwd)
-runs=${1:-20}
-checks=${2:-100}
+runs=${1:-500}
+checks=1
 folder=$(mktemp -d)
 trap 'rm -rf "$folder"' EXIT
 
