@@ -1,12 +1,9 @@
 -- What one more entry changes of what stands.
-use Rattle.std.proofs.Common.{ℕ, ◌≡◌, Bool, true, false, cond, List, [], ◌∷◌, ◌++◌, refl, sym, ap, ◌∙◌, Some, None, subst}
-use Rattle.std.specs.Prelude.{Option, find, reverse, option_and_then}
+use Rattle.std.proofs.Common.{ℕ, ◌≡◌, Bool, true, false, cond, List, [], ◌∷◌, ◌++◌, refl, ap, ◌∙◌, Some}
+use Rattle.std.specs.Prelude.{Option, find, option_and_then}
 use Rattle.std.specs.Option.{option_map_or}
 use Rattle.std.proofs.lemmas.List.{reverse-append}
-use Rattle.std.proofs.lemmas.Bool.{and_parts}
 use Rattle.scan_types.specs.declared.rule.VoidRule.{VoidRule}
-use Rattle.scan_types.specs.declared.offer.Offer.{Offer}
-use Rattle.board_definitions.specs.declared.event.Event.{Event}
 use Rattle.board_definitions.specs.declared.event.Entry.{Entry}
 use Rattle.board_definitions.specs.Entries.{is_about, is_quote}
 use Rattle.board_definitions.specs.Sheets.{last_about, stands, standing, offer_of}

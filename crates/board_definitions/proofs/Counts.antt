@@ -1,6 +1,6 @@
 -- How many selections of a feed stand at a match, in a legal history.
-use Rattle.std.proofs.Common.{ℕ, ◌≡◌, ◌+◌, ◌≤◌, ◌<◌, inl, inr, ⊎_elim, Bool, true, false, cond, List, [], ◌∷◌, ◌++◌, length, take, refl, sym, ap, ◌∙◌, Some, None, arith, subst, zero, suc}
-use Rattle.std.specs.Prelude.{◌⊎◌, count_by, ◌&&◌, ◌==◌, IsTrue, slice_get, Option}
+use Rattle.std.proofs.Common.{ℕ, ◌≡◌, ◌+◌, ◌≤◌, ◌<◌, ⊎_elim, Bool, true, false, cond, List, [], ◌∷◌, ◌++◌, length, take, refl, sym, ap, ◌∙◌, arith, subst, zero, suc}
+use Rattle.std.specs.Prelude.{count_by, ◌&&◌, ◌==◌, IsTrue, Option}
 use Rattle.std.specs.List.{range_with_len}
 use Rattle.std.specs.Str.{bytes_eq}
 use Rattle.std.proofs.lemmas.Bool.{cases_eq, cases_lt, cases_Bool, and_parts, and_from, both_ways}

@@ -6,3 +6,4 @@ pub mod Counts
 pub mod Rising
 pub mod Live
 pub mod More
+pub mod WorkedSheets

@@ -14,7 +14,7 @@ use Rattle.scan_types.specs.Selections.{selection_number}
 use Rattle.board_definitions.specs.declared.event.Event.{Event}
 use Rattle.board_definitions.specs.declared.event.Event.TheVariants.{Quoted, Withdrawn, Ended, Pinned, Filed, Released}
 use Rattle.board_definitions.specs.declared.event.Entry.{Entry}
-use Rattle.board_definitions.specs.Entries.{is_about, is_quote, is_key, rule_of}
+use Rattle.board_definitions.specs.Entries.{is_about, is_quote, rule_of}
 use Rattle.board_definitions.specs.Sheets.{stands, standing, offer_within, offer_with, offer_of, last_about}
 use Rattle.board_definitions.proofs.Keys.{is_key_parts}
 

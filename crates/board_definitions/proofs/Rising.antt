@@ -1,17 +1,16 @@
 -- The sheet rises by feed and selection, and has at most 256 offers.
-use Rattle.std.proofs.Common.{ℕ, ◌≡◌, ◌+◌, ◌*◌, ◌≤◌, ◌<◌, inl, inr, ⊎_elim, Bool, true, false, cond, List, [], ◌∷◌, ◌++◌, length, refl, sym, ap, ◌∙◌, Some, None, arith, subst, zero, suc, get_or}
+use Rattle.std.proofs.Common.{ℕ, ◌≡◌, ◌+◌, ◌≤◌, ◌<◌, inl, inr, ⊎_elim, Bool, true, cond, List, ◌∷◌, ◌++◌, length, refl, sym, ap, ◌∙◌, Some, None, arith, subst, zero, suc, get_or}
 use Rattle.std.specs.Prelude.{◌⊎◌, count_by, Option}
 use Rattle.std.specs.List.{range_with_len, filter_map, flat_map, cons_option, sum_by}
 use Rattle.std.proofs.lemmas.Bool.{cases_eq}
 use Rattle.std.proofs.lemmas.List.Concat.{length-flat_map, flat_map-cons}
 use Rattle.std.proofs.lemmas.List.Sums.{sum_by-le}
 use Rattle.std.proofs.lemmas.List.FromFn.{length-range_with_len}
-use Rattle.scan_types.specs.declared.limits.TheConstants.{MOST_FEEDS, MOST_OFFERS, MOST_STANDING}
+use Rattle.scan_types.specs.declared.limits.TheConstants.{MOST_FEEDS, MOST_STANDING}
 use Rattle.scan_types.specs.declared.offer.Offer.{Offer}
 use Rattle.scan_types.specs.declared.rule.VoidRule.{VoidRule}
 use Rattle.scan_types.specs.Offers.{IsBelow}
 use Rattle.scan_types.specs.Sheets.{IsSheet}
-use Rattle.scan_types.specs.Selections.{selection_number}
 use Rattle.board_definitions.specs.declared.event.Entry.{Entry}
 use Rattle.board_definitions.specs.declared.key.TheConstants.{SELECTIONS}
 use Rattle.board_definitions.specs.Sheets.{stands, standing, standing_count, standing_sheet}

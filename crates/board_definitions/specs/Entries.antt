@@ -1,5 +1,5 @@
 -- What one entry of the history does.
-use Rattle.std.specs.Prelude.{ℕ, Bool, true, false, ◌==◌, ◌&&◌, ◌<◌, ◌≡◌, List, Option, Some, None, slice_get, option_and_then}
+use Rattle.std.specs.Prelude.{ℕ, Bool, true, false, ◌==◌, ◌&&◌, ◌<◌, ◌≡◌, List, Option, slice_get, option_and_then}
 use Rattle.std.specs.Str.{bytes_eq}
 use Rattle.scan_types.specs.Selections.{selection_number}
 use Rattle.scan_types.specs.declared.rule.VoidRule.{VoidRule}

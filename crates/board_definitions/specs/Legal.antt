@@ -1,5 +1,5 @@
 -- Legal histories: each entry may follow those before it.
-use Rattle.std.specs.Prelude.{ℕ, ◌≡◌, ◌≢◌, ◌+◌, ◌<◌, ◌⊎◌, Bool, true, false, IsTrue, List, take, All, Option, Some, slice_get, IsSome}
+use Rattle.std.specs.Prelude.{ℕ, ◌≡◌, ◌≢◌, ◌+◌, ◌<◌, ◌⊎◌, false, IsTrue, List, take, All, Option, Some, slice_get, IsSome}
 use Rattle.scan_types.specs.declared.limits.TheConstants.{MOST_STANDING}
 use Rattle.scan_types.specs.declared.offer.Offer.{Offer}
 use Rattle.scan_types.specs.declared.rule.VoidRule.{VoidRule}
@@ -7,7 +7,6 @@ use Rattle.scan_types.specs.Ranges.{IsLimitRange}
 use Rattle.scan_types.specs.Selections.{selection_number}
 use Rattle.finding_definitions.specs.declared.finding.Finding.{Finding}
 use Rattle.board_definitions.specs.declared.key.Key.{Key}
-use Rattle.board_definitions.specs.declared.event.FeedStop.{FeedStop}
 use Rattle.board_definitions.specs.declared.event.FeedStop.TheVariants.{BadHeader}
 use Rattle.board_definitions.specs.declared.event.Event.TheVariants.{Quoted, Withdrawn, Ended, Pinned, Filed, Released}
 use Rattle.board_definitions.specs.declared.event.Entry.{Entry}

@@ -2,3 +2,4 @@ pub mod Entries
 pub mod Sheets
 pub mod Pins
 pub mod Legal
+pub mod WorkedHistories

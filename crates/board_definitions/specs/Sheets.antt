@@ -11,7 +11,7 @@ use Rattle.scan_types.specs.declared.rule.VoidRule.{VoidRule}
 use Rattle.scan_types.specs.declared.selection.Selection.{Selection}
 use Rattle.board_definitions.specs.declared.key.TheConstants.{SELECTIONS}
 use Rattle.board_definitions.specs.declared.event.Event.{Event}
-use Rattle.board_definitions.specs.declared.event.Event.TheVariants.{Quoted, Withdrawn, Ended, Pinned, Filed, Released}
+use Rattle.board_definitions.specs.declared.event.Event.TheVariants.{Quoted}
 use Rattle.board_definitions.specs.declared.event.Entry.{Entry}
 use Rattle.board_definitions.specs.Entries.{rule_of, is_about, is_quote}
 

@@ -10,6 +10,7 @@ ghost use Rattle.board_definitions.specs.Entries.{closes};
 ghost use Rattle.board_definitions.specs.Sheets.{sheet};
 ghost use Rattle.board_definitions.specs.Pins.{IsLive};
 ghost use Rattle.board_definitions.specs.Legal.{IsLegal};
+ghost use Rattle.board_definitions.specs.WorkedHistories.{HaveWorkedSheets};
 
 use crate::law::Law;
 
@@ -29,4 +30,9 @@ pub fn earlier_sheets_stay()
 pub fn live_pins_stay()
     ensures { (history more : List Entry) (pin : Pin) → IsLive history pin →
         list_any (λ entry. closes pin.version entry.event) more ≡ false → IsLive (history ++ more) pin }
+{}
+
+/// In two histories, worked out by hand, each match has at each version the sheet that stands beside it.
+pub fn worked_histories_have_these_sheets()
+    ensures { HaveWorkedSheets }
 {}

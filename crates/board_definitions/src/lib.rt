@@ -19,5 +19,7 @@ mod pin;
 pub use event::{Entry, Event, FeedStop};
 pub use key::{Key, SELECTIONS};
 pub use law::Law;
-pub use laws::{earlier_sheets_stay, live_pins_stay, sheets_are_sheets};
+pub use laws::{
+    earlier_sheets_stay, live_pins_stay, sheets_are_sheets, worked_histories_have_these_sheets,
+};
 pub use pin::{Pick, Pin};
