@@ -11,9 +11,9 @@
 //! - `Tableau::basic`, `value`, `multiplier`: what a basic solution and its multipliers are read from.
 #![tactic(auto)]
 
+mod condensed;
 mod pivot;
 mod program;
-mod row;
 mod tableau;
 
 pub use pivot::Passed2;

@@ -1,0 +1,4 @@
+use Rattle.fraction_tableau.proofs.condensed.Condensed.rows.Goals as goal
+
+pub unreachable-requires : goal.unreachable-requires
+unreachable-requires c = ?
