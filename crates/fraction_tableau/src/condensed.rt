@@ -7,6 +7,7 @@ ghost use Rattle.fraction_tableau.specs.Condensed.{empty_condensed, CondensedFit
 
 use crate::pivot::Passed2;
 use crate::program::Program;
+use crate::rows::Rows;
 use std::alloc::Global;
 use std::marker::Model;
 use want_of_memory::WantOfMemory;
@@ -15,19 +16,21 @@ use want_of_memory::WantOfMemory;
 // its place in the rows, or the number of columns and the row in which it is basic.
 #[derive(Debug, Drop)]
 pub(crate) struct Condensed {
-    columns: u32,
-    rows: Vec<Vec<i128>>,
-    basis: Vec<u32>,
-    heads: Vec<u32>,
+    pub(crate) columns: u32,
+    pub(crate) rows: Rows,
+    pub(crate) basis: Vec<u32>,
+    pub(crate) heads: Vec<u32>,
 }
 
 impl Model for Condensed {
     ghost use Rattle.condensed_laws.specs.Tableaus.{CondensedTableau};
-    ghost use Rattle.std.specs.Prelude.{map};
+    ghost use Rattle.fraction_tableau.specs.Condensed.{IsSoundOrEmpty};
 
     ghost Value = { CondensedTableau };
 
-    ghost view = { λ t. record { columns = t.columns; rows = map (λ r. r.items) t.rows.items; basis = t.basis.items; heads = t.heads.items } };
+    ghost view = { λ t. record { columns = t.columns; rows = t.rows; basis = t.basis.items; heads = t.heads.items } };
+
+    ghost invariant = { λ t. IsSoundOrEmpty (record { columns = t.columns; rows = t.rows; basis = t.basis.items; heads = t.heads.items }) };
 }
 
 impl Condensed {
@@ -37,7 +40,7 @@ impl Condensed {
     {
         Condensed {
             columns: 0,
-            rows: Vec::new(alloc),
+            rows: Rows::new(alloc),
             basis: Vec::new(alloc),
             heads: Vec::new(alloc),
         }

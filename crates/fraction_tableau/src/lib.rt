@@ -14,6 +14,7 @@
 mod condensed;
 mod pivot;
 mod program;
+mod rows;
 mod tableau;
 
 pub use pivot::Passed2;

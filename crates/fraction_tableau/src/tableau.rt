@@ -44,13 +44,13 @@ impl Tableau {
         ensures { IfOk result (λ tableau. tableau ≡ built program.now) }
     {
         let mut tableau = Tableau::empty(alloc);
-        tableau.rebuild(alloc, program)?;
+        tableau.rebuild(program)?;
         Ok(tableau)
     }
 
-    /// Makes it the tableau of a program as built, whatever it was before. It is empty where no memory is left. What it held is
-    /// given back first, so never more memory is taken than one tableau needs.
-    pub fn rebuild(&mut self, alloc: Global, program: &Program) -> Result<(), WantOfMemory>
+    /// Makes it the tableau of a program as built, whatever it was before. It is empty if no memory is left. Takes memory
+    /// for a number a place, and none if it had room for a program of as many rows and columns before.
+    pub fn rebuild(&mut self, program: &Program) -> Result<(), WantOfMemory>
         ensures ok { OnOk result (self.new ≡ built program.now) }
         ensures err { OnErr result (self.new ≡ empty_tableau) }
     {

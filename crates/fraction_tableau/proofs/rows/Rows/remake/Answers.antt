@@ -1,0 +1,4 @@
+use Rattle.fraction_tableau.proofs.rows.Rows.remake.Goals as goal
+
+pub unreachable-requires : goal.unreachable-requires
+unreachable-requires c = ?
