@@ -1,2 +1,4 @@
 pub mod RowLemmas
 pub mod UnitRows
+pub mod LentRows
+pub mod FilledRows

@@ -1,1 +1,3 @@
 pub mod Combinable
+pub mod Condensed
+pub mod Lent

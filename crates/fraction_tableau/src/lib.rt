@@ -11,9 +11,12 @@
 //! - `Tableau::basic`, `value`, `multiplier`: what a basic solution and its multipliers are read from.
 #![tactic(auto)]
 
+mod condensed;
+mod lent;
 mod pivot;
 mod program;
 mod row;
+mod rows;
 mod tableau;
 
 pub use pivot::Passed2;
