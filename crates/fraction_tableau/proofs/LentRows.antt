@@ -1,5 +1,6 @@
 -- The rows of a condensed tableau while the pivot row is lent.
 use Rattle.std.proofs.Common.{◌≡◌, ◌≢◌, ℕ, zero, suc, ◌+◌, ◌<◌, ◌≤◌, List, [], ◌∷◌, length, get_or, set, ℤ, pos, ◌<ℤ◌, refl, sym, ap, ap₂, subst, subst₂, ◌∙◌, arith}
+use Rattle.std.specs.Prelude.{Option, Some, None, IfNone}
 use Rattle.std.specs.List.{All, Contains}
 use Rattle.std.proofs.lemmas.List.{length-set, length-map, get_or-set_same, get_or-set_other, ext_get_or}
 use Rattle.row_definitions.specs.Rows.{entry, primitive_row}
@@ -14,9 +15,10 @@ use Rattle.condensed_laws.proofs.Wholes.{entry-whole}
 use Rattle.condensed_laws.proofs.Pivots.{length_twice, twice_second, twice_elsewhere}
 use Rattle.condensed_laws.proofs.PivotRows.{place_count, pivot_passes_nowhere, pivot_fits_at, length-combined}
 use Rattle.condensed_laws.proofs.Tableaus.{by_eq, can_swap, pivot_rows, whole_row, length-wholes}
+use Rattle.condensed_laws.proofs.Sound.{pivot_stays_sound}
 use Rattle.condensed_laws.proofs.Shown.{condensed_rows_fit, condensed_rows_are_primitive, lent_row_is_like_whole}
 use Rattle.fraction_tableau.specs.Combinable.{Combinable}
-use Rattle.fraction_tableau.specs.Condensed.{lent_row, place_of, CondensedFits, CondensedPassesFirst}
+use Rattle.fraction_tableau.specs.Condensed.{IsSoundOrEmpty, lent_row, place_of, CondensedFits, CondensedPassesFirst}
 use Rattle.fraction_tableau.specs.Lent.{row_of, AreCombinable, PassNowhereBelow, FitsInColumn, ShowPassing, IsFirstRow, IsFirstColumn, IsFirstPlace}
 
 -- ---- two numbers that change places
@@ -167,9 +169,9 @@ module _ (t : CondensedTableau) (row column : ℕ) (sound : IsSound t) (within :
       let leaving = get_or t.basis row 0 in
       let count : length (whole (places t.columns other t.heads) target) ≡ length t.heads + 1 = length-map (places t.columns other t.heads) (entry target) ∙ place_count (place_by t.columns other) t.columns t.heads in
       let nowhere = (pivot_passes_nowhere t.columns other row leaving column place t.heads target source is).0 (λ k k_below.
-          let k_inside = subst (λ n. k < n) count k_below in
-          (pivot_fits_at t.columns other row leaving column place t.heads target source is k k_inside).1
-          (subst₂ (λ x y. FitsAt x y place (get_or (pivot_places t.columns other row t.heads) k 0)) (at_other other not) at_pivot (each k k_inside))) in
+      let k_inside = subst (λ n. k < n) count k_below in
+      (pivot_fits_at t.columns other row leaving column place t.heads target source is k k_inside).1
+      (subst₂ (λ x y. FitsAt x y place (get_or (pivot_places t.columns other row t.heads) k 0)) (at_other other not) at_pivot (each k k_inside))) in
       subst₂ (λ x y. PassesNowhere x y place) (sym (at_other other not)) (sym at_pivot) nowhere
 
   pub nowhere_below : (count : ℕ) → PassNowhereBelow rows row place count → (other : ℕ) → other < count → other ≢ row → PassesNowhere (condensed_row t other) (lent_row t row) place
@@ -232,10 +234,10 @@ module _ (t : CondensedTableau) (row column : ℕ) (sound : IsSound t) (within :
       let others_there : others ≡ set plain row (lent_row t row) = others_is ∙ others_same in
       let lent_there : row_of others row ≡ lent_row t row = ap (λ xs. row_of xs row) others_there ∙ get_or-set_same plain row (lent_row t row) [] inside in
       let back_there : back ≡ set plain row (condensed_row t row) =
-          back_is
-          ∙ ap₂ (λ xs r. set xs row (exchanged r (t.columns + 2) (t.columns + 1))) others_there lent_there
-          ∙ ap (set (set plain row (lent_row t row)) row) (back_from_lent t.columns (condensed_row t row) (sound.condensed row row_inside))
-          ∙ set_twice plain row (lent_row t row) (condensed_row t row) in
+      back_is
+      ∙ ap₂ (λ xs r. set xs row (exchanged r (t.columns + 2) (t.columns + 1))) others_there lent_there
+      ∙ ap (set (set plain row (lent_row t row)) row) (back_from_lent t.columns (condensed_row t row) (sound.condensed row row_inside))
+      ∙ set_twice plain row (lent_row t row) (condensed_row t row) in
       let row_there : row_of back row ≡ condensed_row t row = ap (λ xs. row_of xs row) back_there ∙ get_or-set_same plain row (condensed_row t row) [] inside in
       after_is
       ∙ ap₂ (λ xs r. set xs row (exchanged r place (t.columns + 1))) back_there row_there
@@ -280,3 +282,139 @@ between_end f before now pivot i is all within =
     (λ not.
     let inside : k < length before = omega (arith, is.count, below) in
     is.combined_below k (omega (arith, inside, all)) not ∙ sym (other_row f before pivot k inside not)))
+
+-- ---- what a pivot of a tableau asks, and what follows from it
+
+pub record CanPivot (t : CondensedTableau) (row column : ℕ) : Type 0 where
+  pub kept : IsSoundOrEmpty t
+  pub within : row < length t.basis
+  pub column_within : column < length t.heads
+  pub not_basic : ¬ Contains t.basis column
+  pub positive : pos 0 <ℤ entry_at (expanded t) row column
+  pub fits : HasFittingEntries (expanded t)
+  pub primitive : HasPrimitiveRows (expanded t)
+
+pub sound_in : (t : CondensedTableau) (row column : ℕ) → CanPivot t row column → IsSound t
+sound_in t row column can = can.kept.sound (omega (arith, can.column_within))
+
+-- the fields and the view are one tableau
+pub can_pivot : (t now : CondensedTableau) (row column : ℕ) → t ≡ now → IsSoundOrEmpty t → row < length now.basis → column < length now.heads → (¬ Contains now.basis column) → pos 0 <ℤ entry_at (expanded now) row column → HasFittingEntries (expanded now) → HasPrimitiveRows (expanded now) → CanPivot t row column
+can_pivot t now row column same kept within column_within not_basic positive fits primitive =
+    let there : CanPivot now row column = record {
+      kept = subst IsSoundOrEmpty same kept;
+      within = within;
+      column_within = column_within;
+      not_basic = not_basic;
+      positive = positive;
+      fits = fits;
+      primitive = primitive;
+    } in
+    subst (λ (s : CondensedTableau). CanPivot s row column) (sym same) there
+
+pub combinable_here : (t : CondensedTableau) (row column : ℕ) → CanPivot t row column → (lent_ones : List (List ℤ)) (at : ℕ) → lent_ones ≡ set t.rows row (exchanged (row_of t.rows row) (t.columns + 2) (t.columns + 1)) → at ≡ get_or t.heads column 0 → AreCombinable lent_ones t.columns row at
+combinable_here t row column can lent_ones at lent_is place_is =
+    let sound = sound_in t row column can in
+    subst₂ (λ rows k. AreCombinable rows t.columns row k) (sym (lent_rows t row column sound can.within can.column_within can.not_basic lent_ones lent_is)) (sym place_is)
+    (lent_combinable t row column sound can.within can.column_within can.not_basic can.kept.few_columns can.positive can.fits can.primitive)
+
+pub shown_here : (t : CondensedTableau) (row column : ℕ) → CanPivot t row column → (lent_ones : List (List ℤ)) (at : ℕ) (heads : List ℕ) → lent_ones ≡ set t.rows row (exchanged (row_of t.rows row) (t.columns + 2) (t.columns + 1)) → at ≡ get_or t.heads column 0 → heads ≡ t.heads → ShowPassing lent_ones t.columns heads row at
+shown_here t row column can lent_ones at heads lent_is place_is heads_is =
+    let sound = sound_in t row column can in
+    subst (λ hs. ShowPassing lent_ones t.columns hs row at) (sym heads_is)
+    (subst₂ (λ rows k. ShowPassing rows t.columns t.heads row k) (sym (lent_rows t row column sound can.within can.column_within can.not_basic lent_ones lent_is)) (sym place_is)
+    (columns_show t row column sound can.within can.column_within can.not_basic))
+
+pub back_here : (t : CondensedTableau) (row column : ℕ) → CanPivot t row column → (lent_ones after : List (List ℤ)) → lent_ones ≡ set t.rows row (exchanged (row_of t.rows row) (t.columns + 2) (t.columns + 1)) → after ≡ set lent_ones row (exchanged (row_of lent_ones row) (t.columns + 2) (t.columns + 1)) → after ≡ t.rows
+back_here t row column can lent_ones after lent_is after_is =
+    let sound = sound_in t row column can in
+    given_back t row column sound can.within can.column_within can.not_basic after
+    (after_is ∙ ap (λ xs. set xs row (exchanged (row_of xs row) (t.columns + 2) (t.columns + 1))) (lent_rows t row column sound can.within can.column_within can.not_basic lent_ones lent_is))
+
+pub lent_counts : (t : CondensedTableau) (row column : ℕ) → CanPivot t row column → (lent_ones : List (List ℤ)) → lent_ones ≡ set t.rows row (exchanged (row_of t.rows row) (t.columns + 2) (t.columns + 1)) → length lent_ones ≡ length t.rows
+lent_counts t row column can lent_ones lent_is = ap length lent_is ∙ length-set t.rows row (exchanged (row_of t.rows row) (t.columns + 2) (t.columns + 1))
+
+pub row_count_here : (t : CondensedTableau) (row column : ℕ) → CanPivot t row column → (other : ℕ) → other < length t.rows → length (row_of t.rows other) ≡ t.columns + 3
+row_count_here t row column can other inside = ((sound_in t row column can).condensed other inside).count
+
+pub fits_here : (t : CondensedTableau) (row column : ℕ) → CanPivot t row column → (lent_ones : List (List ℤ)) (at : ℕ) → lent_ones ≡ set t.rows row (exchanged (row_of t.rows row) (t.columns + 2) (t.columns + 1)) → at ≡ get_or t.heads column 0 → PassNowhereBelow lent_ones row at (length lent_ones) → CondensedFits t row column
+fits_here t row column can lent_ones at lent_is place_is nowhere =
+    let sound = sound_in t row column can in
+    condensed_fits t row column sound can.within can.column_within can.not_basic
+    (subst₂ (λ rows k. PassNowhereBelow rows row k (length rows)) (lent_rows t row column sound can.within can.column_within can.not_basic lent_ones lent_is) place_is nowhere)
+
+pub fits_there : (t : CondensedTableau) (row column : ℕ) → CanPivot t row column → (lent_ones : List (List ℤ)) (at : ℕ) → lent_ones ≡ set t.rows row (exchanged (row_of t.rows row) (t.columns + 2) (t.columns + 1)) → at ≡ get_or t.heads column 0 → CondensedFits t row column → PassNowhereBelow lent_ones row at (length lent_ones)
+fits_there t row column can lent_ones at lent_is place_is nowhere =
+    let sound = sound_in t row column can in
+    subst₂ (λ rows k. PassNowhereBelow rows row k (length rows)) (sym (lent_rows t row column sound can.within can.column_within can.not_basic lent_ones lent_is)) (sym place_is)
+    (nowhere_back t row column sound can.within can.column_within can.not_basic (length (set t.rows row (lent_row t row))) (λ other below not. nowhere other (omega (arith, length-set t.rows row (lent_row t row), below)) not))
+
+pub place_here : (t : CondensedTableau) (row column : ℕ) → CanPivot t row column → (lent_ones : List (List ℤ)) (at : ℕ) (heads : List ℕ) (at_row at_column : ℕ) → lent_ones ≡ set t.rows row (exchanged (row_of t.rows row) (t.columns + 2) (t.columns + 1)) → at ≡ get_or t.heads column 0 → heads ≡ t.heads → IsFirstPlace lent_ones t.columns heads row at at_row at_column → CondensedPassesFirst t row column at_row at_column
+place_here t row column can lent_ones at heads at_row at_column lent_is place_is heads_is is =
+    let sound = sound_in t row column can in
+    first_place_is t row column sound can.within can.column_within can.not_basic at_row at_column
+    (subst₂ (λ rows k. IsFirstPlace rows t.columns t.heads row k at_row at_column) (lent_rows t row column sound can.within can.column_within can.not_basic lent_ones lent_is) place_is
+    (subst (λ hs. IsFirstPlace lent_ones t.columns hs row at at_row at_column) heads_is is))
+
+-- the rows after a pivot
+pub pivoted_here : (t : CondensedTableau) (row column : ℕ) → CanPivot t row column → (lent_ones others back after : List (List ℤ)) (at : ℕ) → lent_ones ≡ set t.rows row (exchanged (row_of t.rows row) (t.columns + 2) (t.columns + 1)) → at ≡ get_or t.heads column 0 →
+    others ≡ others_combined (λ target. moved t.columns at (combined target (row_of lent_ones row) at)) lent_ones row → back ≡ set others row (exchanged (row_of others row) (t.columns + 2) (t.columns + 1)) → after ≡ set back row (exchanged (row_of back row) at (t.columns + 1)) → after ≡ (condensed_pivot t row column).rows
+pivoted_here t row column can lent_ones others back after at lent_is place_is others_is back_is after_is =
+    let sound = sound_in t row column can in
+    let there = lent_rows t row column sound can.within can.column_within can.not_basic lent_ones lent_is in
+    pivoted_rows t row column sound can.within can.column_within can.not_basic others back after
+    (others_is ∙ ap₂ (λ xs k. others_combined (λ target. moved t.columns k (combined target (row_of xs row) k)) xs row) there place_is)
+    back_is
+    (after_is ∙ ap (λ k. set back row (exchanged (row_of back row) k (t.columns + 1))) place_is)
+
+-- the rows stay of one length
+pub others_count : (t : CondensedTableau) (row column : ℕ) → CanPivot t row column → (lent_ones others : List (List ℤ)) (at : ℕ) → lent_ones ≡ set t.rows row (exchanged (row_of t.rows row) (t.columns + 2) (t.columns + 1)) →
+    others ≡ others_combined (λ target. moved t.columns at (combined target (row_of lent_ones row) at)) lent_ones row → (length others ≡ length t.rows) × (length (row_of others row) ≡ t.columns + 3)
+others_count t row column can lent_ones others at lent_is others_is =
+    let sound = sound_in t row column can in
+    let inside : row < length t.rows = omega (arith, sound.row_count, can.within) in
+    let count = lent_counts t row column can lent_ones lent_is in
+    let f : List ℤ → List ℤ = λ target. moved t.columns at (combined target (row_of lent_ones row) at) in (
+      ap length others_is ∙ length-others f lent_ones row (omega (arith, count, inside)) ∙ count,
+      ap (λ xs. length (row_of xs row)) others_is ∙ ap length (same_row f lent_ones row)
+          ∙ ap (λ xs. length (row_of xs row)) (lent_rows t row column sound can.within can.column_within can.not_basic lent_ones lent_is)
+          ∙ ap length (at_pivot t row column sound can.within can.column_within can.not_basic)
+          ∙ lent_count t row column sound can.within can.column_within can.not_basic,
+    )
+
+pub back_count : (width row : ℕ) (others back : List (List ℤ)) → back ≡ set others row (exchanged (row_of others row) (width + 2) (width + 1)) → row < length others → length (row_of others row) ≡ width + 3 → length (row_of back row) ≡ width + 3
+back_count width row others back back_is within count =
+    let r : List ℤ = row_of others row in
+    ap (λ xs. length (row_of xs row)) back_is
+    ∙ ap length (get_or-set_same others row (exchanged r (width + 2) (width + 1)) [] within)
+    ∙ length_twice r (width + 2) (width + 1) (entry r (width + 1)) (entry r (width + 2))
+    ∙ count
+
+pub place_below_width : (t : CondensedTableau) (row column : ℕ) → CanPivot t row column → (head : ℕ) → head ≡ get_or t.heads column 0 → head < t.columns
+place_below_width t row column can head head_is =
+    let inside = (can_swap t row column (sound_in t row column can) can.within can.column_within can.not_basic).place_within in
+    omega (arith, head_is, inside)
+
+-- the tableau after a pivot
+pub pivoted_is : (t : CondensedTableau) (row column : ℕ) (new_rows : List (List ℤ)) (leaving head : ℕ) → new_rows ≡ (condensed_pivot t row column).rows → leaving ≡ get_or t.basis row 0 → head ≡ get_or t.heads column 0 →
+    record { columns = t.columns; rows = new_rows; basis = set t.basis row column; heads = set (set t.heads leaving head) column (t.columns + row) } ≡ condensed_pivot t row column
+pivoted_is t row column new_rows leaving head rows_is leaving_is head_is =
+    let with : List (List ℤ) → ℕ → ℕ → CondensedTableau = λ xs l h. record { columns = t.columns; rows = xs; basis = set t.basis row column; heads = set (set t.heads l h) column (t.columns + row) } in
+    ap (λ xs. with xs leaving head) rows_is ∙ ap₂ (λ l h. with (condensed_pivot t row column).rows l h) leaving_is head_is
+
+pub kept_after_pivot : (t : CondensedTableau) (row column : ℕ) → CanPivot t row column → IsSoundOrEmpty (condensed_pivot t row column)
+kept_after_pivot t row column can =
+    let heads_count : length (condensed_pivot t row column).heads ≡ length t.heads = length-set (set t.heads (get_or t.basis row 0) (get_or t.heads column 0)) column (t.columns + row) ∙ length-set t.heads (get_or t.basis row 0) (get_or t.heads column 0) in
+    let basis_count : length (condensed_pivot t row column).basis ≡ length t.basis = length-set t.basis row column in
+    record {
+      few_columns = can.kept.few_columns;
+      few_rows = omega (arith, basis_count, can.kept.few_rows);
+      sound = λ some. pivot_stays_sound t row column (sound_in t row column can) can.within can.column_within can.not_basic;
+      some_column = λ some. can.kept.some_column (omega (arith, can.column_within));
+      some_row = λ some. omega (arith, basis_count, can.within);
+      empty = λ none. absurd (omega (arith, heads_count, can.column_within, none));
+    }
+
+-- a fact in place of another, if there is no value
+pub none_then : {X : Type 0} (o : Option X) {P Q : Type 0} → IfNone o P → (P → Q) → IfNone o Q
+none_then None is then = then is
+none_then (Some x) is then = tt

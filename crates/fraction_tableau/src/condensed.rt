@@ -20,10 +20,10 @@ use want_of_memory::WantOfMemory;
 // its place in the rows, or the number of columns and the row in which it is basic.
 #[derive(Debug, Drop)]
 pub(crate) struct Condensed {
-    columns: u32,
-    rows: Rows,
-    basis: Vec<u32>,
-    heads: Vec<u32>,
+    pub(crate) columns: u32,
+    pub(crate) rows: Rows,
+    pub(crate) basis: Vec<u32>,
+    pub(crate) heads: Vec<u32>,
 }
 
 impl Model for Condensed {
@@ -152,10 +152,10 @@ impl Condensed {
     {
         let pivot = row as usize;
         let place = self.heads[column as usize] as usize;
-        let own = self.columns as usize + 1;
-        self.rows.swap(pivot, own + 1, own);
+        let width = self.columns as usize;
+        self.rows.swap(pivot, width + 2, width + 1);
         let passing = first_place(&self.rows, &self.heads, self.columns, pivot, place);
-        self.rows.swap(pivot, own + 1, own);
+        self.rows.swap(pivot, width + 2, width + 1);
         passing
     }
 
@@ -234,7 +234,15 @@ fn push_range(numbers: &mut Vec<u32>, first: u32, count: u32)
     ensures { numbers.new.items ≡ numbers.old.items ++ range_with_len first count }
 {
     for more in 0..count {
-        let pushed = numbers.push(first + more);
-        prove!(pushed.is_ok());
+        push_one(numbers, first + more);
     }
+}
+
+fn push_one(numbers: &mut Vec<u32>, number: u32)
+    requires { vec_len numbers.old < vec_capacity numbers.old }
+    ensures items { numbers.new.items ≡ numbers.old.items ++ number ∷ [] }
+    ensures capacity { vec_capacity numbers.old ≤ vec_capacity numbers.new }
+{
+    let pushed = numbers.push(number);
+    prove!(pushed.is_ok());
 }

@@ -67,7 +67,13 @@ fn first_column(
     ensures { IsFirstColumn rows.now width heads.now target pivot place result }
 {
     for (column, head) in heads.iter().enumerate() {
-        if !fits_in(rows, target, pivot, place, lent_place(width, target, pivot, *head)) {
+        if !fits_in(
+            rows,
+            target,
+            pivot,
+            place,
+            lent_place(width, target, pivot, *head),
+        ) {
             return column;
         }
     }

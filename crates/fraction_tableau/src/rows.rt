@@ -33,12 +33,14 @@ impl Rows {
         }
     }
 
+    #[tactic(none)]
     pub(crate) fn clear(&mut self)
         ensures { self.new ≡ [] }
     {
         unreachable!()
     }
 
+    #[tactic(none)]
     pub(crate) fn remake(&mut self, count: u32, width: u32) -> Result<(), WantOfMemory>
         ensures ok { OnOk result (self.new ≡ replicate count (zeros width)) }
         ensures err { OnErr result (self.new ≡ []) }
@@ -46,12 +48,14 @@ impl Rows {
         unreachable!()
     }
 
+    #[tactic(none)]
     pub(crate) fn len(&self) -> usize
         ensures { result ≡ length self.now }
     {
         unreachable!()
     }
 
+    #[tactic(none)]
     pub(crate) fn row(&self, row: usize) -> &[i128]
         requires { row < length self.now }
         ensures { result.now ≡ slice_index_or self.now row [] }
@@ -59,6 +63,7 @@ impl Rows {
         unreachable!()
     }
 
+    #[tactic(none)]
     pub(crate) fn fill(&mut self, row: usize, coefs: &[i128], right: i128)
         requires within { row < length self.old }
         requires zeros { slice_index_or self.old row [] ≡ zeros (length coefs.now + 3) }
@@ -67,6 +72,7 @@ impl Rows {
         unreachable!()
     }
 
+    #[tactic(none)]
     pub(crate) fn put(&mut self, row: usize, place: usize, number: i128)
         requires row { row < length self.old }
         requires place { place < length (slice_index_or self.old row []) }
@@ -75,6 +81,7 @@ impl Rows {
         unreachable!()
     }
 
+    #[tactic(none)]
     pub(crate) fn swap(&mut self, row: usize, one: usize, other: usize)
         requires row { row < length self.old }
         requires one { one < length (slice_index_or self.old row []) }
@@ -84,6 +91,7 @@ impl Rows {
         unreachable!()
     }
 
+    #[tactic(none)]
     pub(crate) fn first_passing(&self, target: usize, pivot: usize, place: usize) -> Option<usize>
         requires target { target < length self.now }
         requires pivot { pivot < length self.now }
@@ -94,6 +102,7 @@ impl Rows {
         unreachable!()
     }
 
+    #[tactic(none)]
     pub(crate) fn fits_at(&self, target: usize, pivot: usize, place: usize, column: usize) -> bool
         requires target { target < length self.now }
         requires pivot { pivot < length self.now }
@@ -104,6 +113,7 @@ impl Rows {
         unreachable!()
     }
 
+    #[tactic(none)]
     pub(crate) fn combine(
         &mut self,
         target: usize,
