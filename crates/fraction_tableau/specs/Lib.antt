@@ -1,1 +1,2 @@
 pub mod Combinable
+pub mod Rows

@@ -14,6 +14,8 @@
 mod pivot;
 mod program;
 mod row;
+mod pooled;
+mod rows;
 mod tableau;
 
 pub use pivot::Passed2;
