@@ -12,9 +12,9 @@
 #![tactic(auto)]
 
 mod pivot;
+mod pooled;
 mod program;
 mod row;
-mod pooled;
 mod rows;
 mod tableau;
 

@@ -46,11 +46,14 @@ pub(crate) fn fill_row(pool: &mut RowPool, id: &RowId, coefs: &[i128], right: i1
     ensures value { pool.new ≡ with_row pool.old id.now.number (Some (filled coefs.now right)) }
     ensures bits { All (HasBits result) (filled coefs.now right) }
 {
-    pool.row_mut(id, |row|
-        requires { row.old ≡ zeros (length coefs.now + 3) }
-        ensures value { row.new ≡ filled coefs.entry.now right }
-        ensures bits { All (HasBits result) row.new }
-    { fill_zeros(row, coefs, right) })
+    pool.row_mut(
+        id,
+        |row|
+            requires { row.old ≡ zeros (length coefs.now + 3) }
+            ensures value { row.new ≡ filled coefs.entry.now right }
+            ensures bits { All (HasBits result) row.new }
+        { fill_zeros(row, coefs, right) },
+    )
 }
 
 fn fill_zeros(row: &mut [i128], coefs: &[i128], right: i128) -> u32
@@ -70,12 +73,15 @@ pub(crate) fn put_number(pool: &mut RowPool, id: &RowId, place: usize, number: i
     requires place { place < length (row_in pool.old id.now.number) }
     ensures { pool.new ≡ with_row pool.old id.now.number (Some (slice_set (row_in pool.old id.now.number) place number)) }
 {
-    pool.row_mut(id, |row|
-        requires { place < length row.old }
-        ensures { row.new ≡ slice_set row.old place number }
-    {
-        row[place] = number;
-    })
+    pool.row_mut(
+        id,
+        |row|
+            requires { place < length row.old }
+            ensures { row.new ≡ slice_set row.old place number }
+        {
+            row[place] = number;
+        },
+    )
 }
 
 pub(crate) fn swap_numbers(pool: &mut RowPool, id: &RowId, one: usize, other: usize)
@@ -84,15 +90,18 @@ pub(crate) fn swap_numbers(pool: &mut RowPool, id: &RowId, one: usize, other: us
     requires other { other < length (row_in pool.old id.now.number) }
     ensures { pool.new ≡ with_row pool.old id.now.number (Some (exchanged (row_in pool.old id.now.number) one other)) }
 {
-    pool.row_mut(id, |row|
-        requires one { one < length row.old }
-        requires other { other < length row.old }
-        ensures { row.new ≡ exchanged row.old one other }
-    {
-        let first = row[one];
-        row[one] = row[other];
-        row[other] = first;
-    })
+    pool.row_mut(
+        id,
+        |row|
+            requires one { one < length row.old }
+            requires other { other < length row.old }
+            ensures { row.new ≡ exchanged row.old one other }
+        {
+            let first = row[one];
+            row[one] = row[other];
+            row[other] = first;
+        },
+    )
 }
 
 // Combines a row with the pivot row. Returns how many bits are enough for its numbers then.
@@ -112,9 +121,13 @@ pub(crate) fn combine_pair(
     ensures value { pool.new ≡ with_row pool.old target.now.number (Some (combined (row_in pool.old target.now.number) (row_in pool.old pivot.now.number) place)) }
     ensures bits { All (HasBits result) (combined (row_in pool.old target.now.number) (row_in pool.old pivot.now.number) place) }
 {
-    pool.pair_mut(target, pivot, |row, other|
-        requires { CombinesWithin row.old other.now target_bits pivot_bits place bound }
-        ensures value { row.new ≡ combined row.old other.now place }
-        ensures bits { All (HasBits result) row.new }
-    { combine_within(row, target_bits, other, pivot_bits, place, bound) })
+    pool.pair_mut(
+        target,
+        pivot,
+        |row, other|
+            requires { CombinesWithin row.old other.now target_bits pivot_bits place bound }
+            ensures value { row.new ≡ combined row.old other.now place }
+            ensures bits { All (HasBits result) row.new }
+        { combine_within(row, target_bits, other, pivot_bits, place, bound) },
+    )
 }

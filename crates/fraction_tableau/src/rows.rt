@@ -99,7 +99,7 @@ impl Rows {
         requires place { place < length (slice_index_or self.old row []) }
         ensures { self.new ≡ slice_set self.old row (slice_set (slice_index_or self.old row []) place number) }
     {
-        self.bits[row] = self.bits[row].max(bit_length(&[number]));
+        self.bits[row] = most(self.bits[row], bit_length(&[number]));
         put_number(&mut self.pool, &self.ids[row], place, number);
     }
 
@@ -214,6 +214,14 @@ fn bound_of(
         return None;
     }
     Some(content_bound(target, pivot, place, Some(own), leaving))
+}
+
+// The greater of two numbers of bits, which is enough where one of them is.
+fn most(bits: u32, other: u32) -> u32
+    ensures one { bits ≤ result }
+    ensures other { other ≤ result }
+{
+    bits.max(other)
 }
 
 fn push_zeros(bits: &mut Vec<u32>, count: usize)

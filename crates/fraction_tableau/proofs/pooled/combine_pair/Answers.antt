@@ -23,7 +23,7 @@ returns-clause-value c =
     let r = e.returned in
     let m = r.met in
     let is : e.new ≡ combined (row_in a.pool.now a.target.now.number) (row_in a.pool.now a.pivot.now.number) a.place =
-      sym r.leaves ∙ m.0 ∙ ap₂ (λ (t p : List ℤ). combined t p a.place) (r.shows ∙ row_in_is a.pool.now a.target.now.number e.old e.was) (r.shows_second ∙ row_in_is a.pool.now a.pivot.now.number e.other e.other_was) in
+    sym r.leaves ∙ m.0 ∙ ap₂ (λ (t p : List ℤ). combined t p a.place) (r.shows ∙ row_in_is a.pool.now a.target.now.number e.old e.was) (r.shows_second ∙ row_in_is a.pool.now a.pivot.now.number e.other e.other_was) in
     e.is ∙ ap (λ (row : List ℤ). with_row a.pool.now a.target.now.number (Some row)) is
 
 pub returns-clause-bits : goal.returns-clause-bits
@@ -33,5 +33,5 @@ returns-clause-bits c =
     let r = e.returned in
     let m = r.met in
     let is : r.left.now ≡ combined (row_in a.pool.now a.target.now.number) (row_in a.pool.now a.pivot.now.number) a.place =
-      m.0 ∙ ap₂ (λ (t p : List ℤ). combined t p a.place) (r.shows ∙ row_in_is a.pool.now a.target.now.number e.old e.was) (r.shows_second ∙ row_in_is a.pool.now a.pivot.now.number e.other e.other_was) in
+    m.0 ∙ ap₂ (λ (t p : List ℤ). combined t p a.place) (r.shows ∙ row_in_is a.pool.now a.target.now.number e.old e.was) (r.shows_second ∙ row_in_is a.pool.now a.pivot.now.number e.other e.other_was) in
     subst (All (HasBits c.pair_mut.result)) is m.1

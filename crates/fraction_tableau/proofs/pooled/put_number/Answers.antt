@@ -19,5 +19,5 @@ returns c =
     let r = e.returned in
     let m = r.met in
     let is : e.new ≡ set (row_in a.pool.now a.id.now.number) a.place a.number =
-      sym r.leaves ∙ m ∙ ap (λ z. set r.shown.now a.place z) (to_z-of_z fits) ∙ ap (λ (row : List ℤ). set row a.place a.number) (r.shows ∙ row_in_is a.pool.now a.id.now.number e.old e.was) in
+    sym r.leaves ∙ m ∙ ap (λ z. set r.shown.now a.place z) (to_z-of_z fits) ∙ ap (λ (row : List ℤ). set row a.place a.number) (r.shows ∙ row_in_is a.pool.now a.id.now.number e.old e.was) in
     e.is ∙ ap (λ (row : List ℤ). with_row a.pool.now a.id.now.number (Some row)) is

@@ -18,5 +18,5 @@ returns c =
     let r = e.returned in
     let m = r.met in
     let is : e.new ≡ exchanged (row_in a.pool.now a.id.now.number) a.one a.other =
-      sym r.leaves ∙ m ∙ ap (λ (row : List ℤ). exchanged row a.one a.other) (r.shows ∙ row_in_is a.pool.now a.id.now.number e.old e.was) in
+    sym r.leaves ∙ m ∙ ap (λ (row : List ℤ). exchanged row a.one a.other) (r.shows ∙ row_in_is a.pool.now a.id.now.number e.old e.was) in
     e.is ∙ ap (λ (row : List ℤ). with_row a.pool.now a.id.now.number (Some row)) is
