@@ -1,3 +1,4 @@
 pub mod Combinable
 pub mod Condensed
 pub mod Lent
+pub mod Rows

@@ -14,6 +14,7 @@
 mod condensed;
 mod lent;
 mod pivot;
+mod pooled;
 mod program;
 mod row;
 mod rows;
