@@ -1,4 +1,0 @@
-use Rattle.fraction_tableau.proofs.condensed.Condensed.rows.Goals as goal
-
-pub unreachable-requires : goal.unreachable-requires
-unreachable-requires c = ?
