@@ -58,7 +58,7 @@ can_swap t row column sound within column_within not_basic = record {
   leaving_alone = λ other inside is. sound.one_column other (get_or t.basis row 0) inside (sound.basis_within row within) (is ∙ sym (sound.basic_head row within));
 }
 
-pivot_rows : (t : CondensedTableau) (row column : ℕ) → IsSound t → row < length t.basis → column < length t.heads → ¬ Contains t.basis column → (own : ℕ) → own < length t.rows → own ≢ row → ArePivotRows t.columns own row (get_or t.basis row 0) column (get_or t.heads column 0) t.heads (condensed_row t own) (condensed_row t row)
+pub pivot_rows : (t : CondensedTableau) (row column : ℕ) → IsSound t → row < length t.basis → column < length t.heads → ¬ Contains t.basis column → (own : ℕ) → own < length t.rows → own ≢ row → ArePivotRows t.columns own row (get_or t.basis row 0) column (get_or t.heads column 0) t.heads (condensed_row t own) (condensed_row t row)
 pivot_rows t row column sound within column_within not_basic own inside another = record {
   target_condensed = sound.condensed own inside;
   row_condensed = sound.condensed row (omega (arith, sound.row_count));

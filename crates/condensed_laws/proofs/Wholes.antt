@@ -107,7 +107,7 @@ fits_of_wholes places target pivot at column within column_within =
 zero_fits : FitsEntry (pos 0)
 zero_fits = lit< tt
 
-zeros_fit : (a b t p : ℤ) → t ≡ pos 0 → p ≡ pos 0 → ProductsFit a b t p
+pub zeros_fit : (a b t p : ℤ) → t ≡ pos 0 → p ≡ pos 0 → ProductsFit a b t p
 zeros_fit a b t p no_target no_pivot = subst₂ (λ x y. ProductsFit a b x y) (sym no_target) (sym no_pivot) (record {
   target_product = subst FitsEntry (sym (*ℤ-zero a)) zero_fits;
   pivot_product = subst FitsEntry (sym (*ℤ-zero b)) zero_fits;

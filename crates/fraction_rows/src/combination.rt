@@ -1,10 +1,10 @@
 // The combination of two rows that makes the first 0 in a column.
-ghost use Rattle.std.specs.Prelude.{◌≡◌, ◌<◌, ◌^◌, length, ◌-ℤ◌, ◌*ℤ◌, SomeIff, IfSome, IfNone, OnOk, IfErr, OnErr};
+ghost use Rattle.std.specs.Prelude.{◌≡◌, ◌<◌, ◌^◌, length, ◌-ℤ◌, ◌*ℤ◌, SomeIff, IfSome, IfNone, OnOk, IfErr, OnErr, IsTrue, ◌↔◌};
 ghost use Rattle.std.specs.Int.{◌∣◌};
 ghost use Rattle.std.specs.List.{All};
 ghost use Rattle.std.specs.Option.{ForSome};
 ghost use Rattle.row_definitions.specs.Rows.{row_divisor, IsPositiveMultiple};
-ghost use Rattle.row_definitions.specs.Combination.{FitsEntry, ProductsFit, PassesNowhere, PassesFirst, plain_combination, reduced_combination, combined, target_factor, pivot_factor};
+ghost use Rattle.row_definitions.specs.Combination.{FitsEntry, ProductsFit, FitsAt, PassesNowhere, PassesFirst, plain_combination, reduced_combination, combined, target_factor, pivot_factor};
 ghost use Rattle.fraction_rows.specs.Combinable.{Combinable, IsPrimitivePair, IsZeroIn};
 ghost use Rattle.fraction_rows.specs.BitLengths.{HasBits};
 
@@ -90,6 +90,17 @@ pub fn first_passing(
         }
     }
     None
+}
+
+/// Whether the combination fits 128 bits in a column: both products and their difference. The other conditions are those of
+/// `combine`. Costs a run of Euclid's algorithm for the two factors.
+pub fn fits_at(target: &[i128], pivot: &[i128], at: usize, column: usize) -> bool
+    requires combinable { Combinable target.now pivot.now at }
+    requires column { column < length target.now }
+    ensures { IsTrue result ↔ FitsAt target.now pivot.now at column }
+{
+    let factors = factors_of(target, pivot, at);
+    checked_entry(target[column], pivot[column], factors).is_some()
 }
 
 /// What `combine` does where it passes nowhere, for a caller that tested that. The bits are enough for the numbers of the two

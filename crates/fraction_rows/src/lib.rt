@@ -17,7 +17,7 @@ mod exact;
 mod writing;
 
 pub use bits::bit_length;
-pub use combination::{Passed, combine, combine_within, content_bound, first_passing};
+pub use combination::{Passed, combine, combine_within, content_bound, first_passing, fits_at};
 pub use division::primitive;
 pub use divisor::common_divisor;
 

@@ -86,3 +86,10 @@ all_out width (false ∷ outs) block all = let marked : IsTrue false = All-head 
 pub rows_free : (width rows : ℕ) (block : List ℤ) → rows_of width (replicate rows false) block ≡ replicate rows None
 rows_free width zero block = refl
 rows_free width (suc rows) block = ap (λ xs. None ∷ xs) (rows_free width rows (drop width block))
+
+-- a row with a mark is out
+pub marked_is_out : (width : ℕ) (outs : List Bool) (block : List ℤ) (row : ℕ) → get_or outs row false ≡ true → IsSome (get_or (rows_of width outs block) row None)
+marked_is_out width [] block row is = absurd (cc)
+marked_is_out width (true ∷ outs) block zero is = refl
+marked_is_out width (false ∷ outs) block zero is = absurd (cc)
+marked_is_out width (o ∷ outs) block (suc row) is = marked_is_out width outs (drop width block) row is

@@ -1,5 +1,5 @@
 -- A pool of rows of numbers, some free and some out.
-use Rattle.std.specs.Prelude.{◌≡◌, ℕ, ◌<◌, Bool, if◌then◌else◌, Option, None, Some, List, [], ◌∷◌, length, take, drop, replicate, slice_index_or, slice_set, ℤ, pos, IsSome}
+use Rattle.std.specs.Prelude.{◌≡◌, ℕ, ◌<◌, Bool, true, false, if◌then◌else◌, Option, None, Some, List, [], ◌∷◌, length, take, drop, replicate, slice_index_or, slice_set, ℤ, pos, IsSome}
 
 -- a pool: how many numbers each row has, and its rows by their numbers, each `None` while it is free
 pub record Pool : Type 0 where
@@ -39,3 +39,7 @@ empty_pool = free_rows 0 0
 abbrev pub rows_of : ℕ → List Bool → List ℤ → List (Option (List ℤ))
 rows_of width [] block = []
 rows_of width (out ∷ outs) block = (if out then Some (take width block) else None) ∷ rows_of width outs (drop width block)
+
+-- every row before this one is marked as out
+abbrev pub AreMarked : List Bool → ℕ → Type 0
+AreMarked outs upto = (row : ℕ) → row < upto → slice_index_or outs row false ≡ true

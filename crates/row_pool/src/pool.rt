@@ -1,6 +1,6 @@
-ghost use Rattle.std.specs.Prelude.{◌≡◌, ◌≢◌, ◌+◌, ◌≤◌, ◌++◌, length, None, Some, replicate, false, slice_get, OnOk, OnErr, IfSome, IfNone, IsSome, IsTrue, vec_len, vec_capacity};
+ghost use Rattle.std.specs.Prelude.{◌≡◌, ◌≢◌, ◌+◌, ◌≤◌, ◌++◌, length, None, Some, replicate, false, slice_get, OnOk, OnErr, IfSome, IfNone, IsSome, IsTrue, ℕ, ◌<◌, vec_len, vec_capacity};
 ghost use Rattle.std.specs.List.{All};
-ghost use Rattle.row_pool.specs.Pools.{row_at, IsOut, IsFree, with_row, zeros, free_rows, empty_pool};
+ghost use Rattle.row_pool.specs.Pools.{row_at, IsOut, IsFree, with_row, zeros, free_rows, empty_pool, AreMarked};
 ghost use Rattle.row_pool.specs.Changes.{CanChange, Changed, CanChangeBy, ChangedBy};
 
 use crate::part::{change_part, change_part_by, clear_part, part};
@@ -19,18 +19,20 @@ pub struct RowId {
 pub struct RowPool {
     width: usize,
     out: Vec<bool>,
+    // Every row before it is out.
+    next: usize,
     block: Vec<i128>,
 }
 
 impl Model for RowPool {
     ghost use Rattle.std.specs.Prelude.{◌≡◌, ◌*◌, ◌<◌, ◌^◌, length};
-    ghost use Rattle.row_pool.specs.Pools.{Pool, rows_of};
+    ghost use Rattle.row_pool.specs.Pools.{Pool, rows_of, AreMarked};
 
     ghost Value = { Pool };
 
     ghost view = { λ p. record { width = p.width; rows = rows_of p.width p.out.items p.block.items } };
 
-    ghost invariant = { λ p. (length p.block.items ≡ length p.out.items * p.width) × (length p.out.items < 2 ^ 32) };
+    ghost invariant = { λ p. (length p.block.items ≡ length p.out.items * p.width) × (length p.out.items < 2 ^ 32) × AreMarked p.out.items p.next };
 }
 
 impl RowPool {
@@ -41,6 +43,7 @@ impl RowPool {
         RowPool {
             width: 0,
             out: Vec::new(alloc),
+            next: 0,
             block: Vec::new(alloc),
         }
     }
@@ -55,6 +58,7 @@ impl RowPool {
     {
         let count = rows as usize * width as usize;
         self.width = 0;
+        self.next = 0;
         self.out.clear();
         self.block.clear();
         self.out.reserve_exact(rows as usize)?;
@@ -65,18 +69,20 @@ impl RowPool {
         Ok(())
     }
 
-    /// Gives out a free row, all 0, or none where every row is out. Costs a look at each row before it, and a write a number
-    /// of the row.
+    /// Gives out the first free row, all 0, or none if every row is out. Costs a look at each row since the first that was
+    /// taken or given back last, and a write a number of the row.
     pub fn take(&mut self) -> Option<RowId>
         ensures free { IfSome result (λ id. IsFree self.old id.number) }
+        ensures first { IfSome result (λ id. (row : ℕ) → row < id.number → IsOut self.old row) }
         ensures taken { IfSome result (λ id. self.new ≡ with_row self.old id.number (Some (zeros self.old.width))) }
         ensures none { IfNone result (All IsSome self.old.rows) }
         ensures unchanged { IfNone result (self.new ≡ self.old) }
     {
-        let number = first_free(&self.out)?;
+        let number = first_free(&self.out, self.next)?;
         let start = number * self.width;
         clear_part(self.block.as_mut_slice(), start, self.width);
         self.out[number] = true;
+        self.next = number + 1;
         Some(RowId {
             number: number as u32,
         })
@@ -124,15 +130,23 @@ impl RowPool {
         ensures { self.new ≡ with_row self.old id.number None }
     {
         self.out[id.number as usize] = false;
+        self.next = self.next.min(id.number as usize);
     }
 }
 
-// The first row that is free.
-fn first_free(out: &[bool]) -> Option<usize>
+// The first row that is free. Every row before `from` is out.
+fn first_free(out: &[bool], from: usize) -> Option<usize>
+    requires { AreMarked out.now from }
     ensures some { IfSome result (λ row. slice_get out.now row ≡ Some false) }
+    ensures first { IfSome result (AreMarked out.now) }
     ensures none { IfNone result (All IsTrue out.now) }
 {
-    out.iter().position(|out| !*out)
+    for row in from..out.len() {
+        if !out[row] {
+            return Some(row);
+        }
+    }
+    None
 }
 
 fn push_free(out: &mut Vec<bool>, rows: usize)

@@ -3,9 +3,9 @@ use Rattle.std.specs.Prelude.{Some, Option, IsSome, IfNone, IsTrue}
 use Rattle.std.specs.List.{All, slice_get}
 use Rattle.std.proofs.lemmas.List.{length-replicate, with_items_is}
 use Rattle.std.proofs.lemmas.Option.{slice_get_within}
-use Rattle.row_pool.specs.Pools.{Pool, IsFree, with_row, rows_of, zeros}
+use Rattle.row_pool.specs.Pools.{Pool, IsFree, IsOut, AreMarked, with_row, rows_of, zeros}
 use Rattle.row_pool.specs.Parts.{with_part}
-use Rattle.row_pool.proofs.Rows.{all_out, ends_within, length-rows_of, unmarked_is_free, row_written}
+use Rattle.row_pool.proofs.Rows.{all_out, ends_within, length-rows_of, unmarked_is_free, row_written, marked_is_out}
 use Rattle.row_pool.proofs.pool.RowPool.take.Goals as goal
 
 pub returns-in_err-number-clause-none : goal.returns-in_err-number-clause-none
@@ -60,3 +60,10 @@ returns-clause-taken c =
     let block = with_items_is i.block c.clear_part.new.block (c.clear_part.auto.block ∙ c.as_mut_slice.ensures.len) ∙ c.clear_part.ensures ∙ ap written c.as_mut_slice.ensures.value in
     let rows : List ℤ → List (Option (List ℤ)) = rows_of i.width _ in
     ap pooled (ap rows block ∙ row_written i.width i.out.items i.block.items number true (zeros i.width) (slice_get_within i.out.items number false free) (omega (arith, c.self.invariant.0)) (length-replicate i.width (pos 0))) ∙ ap taken c.self.view_is
+
+pub returns-clause-first : goal.returns-clause-first
+returns-clause-first c row below =
+    let i = c.self.inside in
+    let marked : AreMarked i.out.items c.in_ok-number.number = let P : List Bool → Type 0 = λ xs. AreMarked xs c.in_ok-number.number in subst P c.deref.ensures.value c.in_ok-number.ensures.first in
+    let P : Pool → Type 0 = λ p. IsOut p row in
+    subst P c.self.view_is (marked_is_out i.width i.out.items i.block.items row (marked row below))
