@@ -1,5 +1,5 @@
-pub mod RowLemmas
 pub mod UnitRows
-pub mod LentRows
-pub mod FilledRows
 pub mod PoolRows
+pub mod FilledRows
+pub mod LentRows
+pub mod Lifted

@@ -12,8 +12,3 @@ pub record Combinable (target pivot : List ℤ) (column : ℕ) : Type 0 where
   -- and both are kept divided
   pub primitive : primitive_row target ≡ target
   pub pivot_primitive : primitive_row pivot ≡ pivot
-
--- the pivot is 0 in the column that is basic in the target, where there is one, and the target in the column that leaves
-pub record AreApart (target pivot : List ℤ) (own : Option ℕ) (leaving : ℕ) : Type 0 where
-  pub own_zero : ForSome own (λ column. fraction_rows.IsZeroIn pivot column)
-  pub leaving_zero : fraction_rows.IsZeroIn target leaving

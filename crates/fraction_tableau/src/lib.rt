@@ -3,12 +3,16 @@
 //! pivot says where a number would pass 128 bits.
 //!
 //! - `Program`: coefficients and right sides; the objective is column 0.
-//! - `Tableau::build`, and `rebuild` of an empty or used one: the first tableau. No other call takes memory: a number a place of
-//!   the tableau.
-//! - `Tableau::pivot`: one pivot, in a few scans of each other row that is not 0 in the column: one that tests, where the
-//!   bits of both rows and of the two entries of the column leave that open, one that writes, and those that divide, which
-//!   fall away where the basic entry and the entry that leaves have no common divisor.
+//! - `Tableau::build`, and `rebuild` of an empty or used one: the first tableau. No other call takes memory: a number for
+//!   each column of the program and three more, in each row.
+//! - `Tableau::pivot`: one pivot. Per row that is not 0 in the column: an overflow test (skipped if the bit lengths of both
+//!   rows rule an overflow out), the combination, the division (skipped if a proved bound of the divisor is 1), and a new bit
+//!   length. O(rows * columns); allocates nothing.
 //! - `Tableau::basic`, `value`, `multiplier`: what a basic solution and its multipliers are read from.
+//!
+//! Inside, three modules stand on each other. `rows` keeps rows of numbers in one pool, with their bit lengths. `condensed`
+//! is a tableau of such rows, which lack the columns that are basic in other rows, where they are 0. `tableau` is the whole
+//! tableau for which that stands.
 #![tactic(auto)]
 
 mod condensed;
@@ -16,7 +20,6 @@ mod lent;
 mod pivot;
 mod pooled;
 mod program;
-mod row;
 mod rows;
 mod tableau;
 

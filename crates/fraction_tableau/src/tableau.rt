@@ -3,8 +3,8 @@ ghost use Rattle.std.specs.List.{Contains};
 ghost use Rattle.row_definitions.specs.Combination.{FitsEntry};
 ghost use Rattle.pivot_definitions.specs.Tableaus.{IsKeptTableau, column_count, entry_at, right_side, objective, basic_column, multiplier_of, IsValueOf, built, empty_tableau};
 
+use crate::condensed::Condensed;
 use crate::program::Program;
-use crate::row::Row;
 use std::alloc::Global;
 use std::marker::Model;
 use want_of_memory::WantOfMemory;
@@ -14,19 +14,19 @@ use want_of_memory::WantOfMemory;
 /// tableau has no columns and no rows.
 #[derive(Debug, Drop)]
 pub struct Tableau {
-    pub(crate) columns: u32,
-    pub(crate) rows: Vec<Row>,
-    pub(crate) basis: Vec<u32>,
+    pub(crate) condensed: Condensed,
 }
 
 impl Model for Tableau {
-    ghost use Rattle.pivot_definitions.specs.Tableaus.{SimplexTableau, IsKeptOrEmpty};
+    ghost use Rattle.pivot_definitions.specs.Tableaus.{SimplexTableau};
+    ghost use Rattle.condensed_laws.specs.Tableaus.{expanded};
+    ghost use Rattle.fraction_tableau.specs.Kept.{StandsForKept};
 
     ghost Value = { SimplexTableau };
 
-    ghost view = { λ t. record { columns = t.columns; rows = t.rows.items; basis = t.basis.items } };
+    ghost view = { λ t. expanded t.condensed };
 
-    ghost invariant = { λ t. IsKeptOrEmpty (record { columns = t.columns; rows = t.rows.items; basis = t.basis.items }) };
+    ghost invariant = { λ t. StandsForKept t.condensed };
 }
 
 impl Tableau {
@@ -35,9 +35,7 @@ impl Tableau {
         ensures { result ≡ empty_tableau }
     {
         Tableau {
-            columns: 0,
-            rows: Vec::new(alloc),
-            basis: Vec::new(alloc),
+            condensed: Condensed::empty(alloc),
         }
     }
 
@@ -45,30 +43,18 @@ impl Tableau {
     pub fn build(alloc: Global, program: &Program) -> Result<Tableau, WantOfMemory>
         ensures { IfOk result (λ tableau. tableau ≡ built program.now) }
     {
-        let columns = program.columns();
-        let count = program.rows();
-        let mut rows = Vec::with_capacity(alloc, count as usize + 1)?;
-        let mut basis = Vec::with_capacity(alloc, count as usize)?;
-        for row in 0..count {
-            rows.push(Row::constraint(alloc, program, row as usize)?)?;
-            basis.push(columns + row)?;
-        }
-        rows.push(Row::objective(alloc, program)?)?;
-        Ok(Tableau {
-            columns,
-            rows,
-            basis,
-        })
+        let mut tableau = Tableau::empty(alloc);
+        tableau.rebuild(program)?;
+        Ok(tableau)
     }
 
-    /// Makes it the tableau of a program as built, whatever it was before. It is empty where no memory is left. What it held is
-    /// given back first, so never more memory is taken than one tableau needs.
-    pub fn rebuild(&mut self, alloc: Global, program: &Program) -> Result<(), WantOfMemory>
+    /// Makes it the tableau of a program as built, whatever it was before. It is empty if no memory is left. Takes memory
+    /// for a number a place, and none if it had room for a program of as many rows and columns before.
+    pub fn rebuild(&mut self, program: &Program) -> Result<(), WantOfMemory>
         ensures ok { OnOk result (self.new ≡ built program.now) }
         ensures err { OnErr result (self.new ≡ empty_tableau) }
     {
-        *self = Tableau::empty(alloc);
-        *self = Tableau::build(alloc, program)?;
+        self.condensed.rebuild(program)?;
         Ok(())
     }
 
@@ -79,7 +65,7 @@ impl Tableau {
         // Every tableau that is not empty is one in kept and canonical form.
         ensures kept { 0 < result → IsKeptTableau self.now }
     {
-        self.columns
+        self.condensed.columns()
     }
 
     /// How many rows the program has, which is how many constraint rows there are: from 1 to 2,048, and 0 where the tableau
@@ -90,7 +76,7 @@ impl Tableau {
         // Every tableau that is not empty is one in kept and canonical form.
         ensures kept { 0 < result → IsKeptTableau self.now }
     {
-        self.basis.len() as u32
+        self.condensed.rows()
     }
 
     /// The column that is basic in a row of the program.
@@ -99,7 +85,7 @@ impl Tableau {
         ensures value { result ≡ basic_column self.now row }
         ensures within { result < column_count self.now }
     {
-        self.basis[row as usize]
+        self.condensed.basic(row)
     }
 
     /// The entry of a row in a column; the objective row is the last, and the right side the last column. The tableau is not
@@ -111,7 +97,7 @@ impl Tableau {
         ensures value { result ≡ entry_at self.now row column }
         ensures fits { FitsEntry result }
     {
-        self.rows[row as usize].entries()[column as usize]
+        self.condensed.entry(row, column)
     }
 
     /// The right side of a row of the program.
@@ -120,7 +106,7 @@ impl Tableau {
         ensures value { result ≡ right_side self.now row }
         ensures fits { FitsEntry result }
     {
-        self.entry(row, self.columns + self.rows())
+        self.entry(row, self.columns() + self.rows())
     }
 
     /// The entry of the objective row in a column. The tableau is not empty.
@@ -130,7 +116,7 @@ impl Tableau {
         ensures value { result ≡ objective self.now column }
         ensures fits { FitsEntry result }
     {
-        self.entry(self.basis.len() as u32, column)
+        self.entry(self.rows(), column)
     }
 
     /// The value of a column in the basic solution as a fraction: the right side and the entry of the row in which the
@@ -151,14 +137,14 @@ impl Tableau {
         ensures within { IfSome result (λ row. row < length self.now.basis) }
         ensures few { length self.now.basis ≤ 2048 }
     {
-        self.basis.iter().position(|basic| *basic == column)
+        self.condensed.basis().iter().position(|basic| *basic == column)
     }
 
     /// Whether a column is basic in some row.
     pub fn is_basic(&self, column: u32) -> bool
         ensures { IsTrue result ↔ Contains self.now.basis column }
     {
-        self.basis.contains(&column)
+        self.condensed.basis().contains(&column)
     }
 
     /// The multiplier of a row of the program: the negative of the objective row's entry in the row's slack column.
@@ -166,6 +152,6 @@ impl Tableau {
         requires { row < length self.now.basis }
         ensures { result ≡ multiplier_of self.now row }
     {
-        -self.objective(self.columns + row)
+        -self.objective(self.columns() + row)
     }
 }

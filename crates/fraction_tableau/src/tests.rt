@@ -2,7 +2,8 @@ ghost use Rattle.std.specs.Prelude.{◌≡◌, ◌+◌, ◌<◌, length, IfOk};
 ghost use Rattle.pivot_definitions.specs.Tableaus.{column_count, HasSameShape};
 
 use super::*;
-use crate::row::Row;
+use crate::condensed::Condensed;
+use crate::rows::Rows;
 use std::alloc::Global;
 use std::process::Abort;
 use std::test::Fail;
@@ -136,25 +137,27 @@ fn passes_in_the_right_side(rt: HostRuntime) -> Result<(), Fail> {
     Ok(())
 }
 
-fn row(alloc: Global, numbers: &[i128]) -> Result<Row, Fail>
-    ensures { IfOk result (λ row. row ≡ numbers.now) }
-{
-    Ok(Row::of(numbers.to_vec(alloc)?))
-}
-
 // A tableau that no program builds: one constraint row, and an objective row whose right side is large.
 fn large_objective(alloc: Global) -> Result<Tableau, Fail>
     ensures { IfOk result (λ tableau. (tableau.columns ≡ 1) × (length tableau.basis ≡ 1)) }
 {
-    let mut rows = Vec::new(alloc);
-    rows.push(row(alloc, &[3, 1, 0])?)?;
-    rows.push(row(alloc, &[1, 0, LARGE])?)?;
+    let mut rows = Rows::new(alloc);
+    rows.remake(2, 4)?;
+    rows.fill(0, &[3], 0);
+    rows.put(1, 0, 1);
+    rows.put(1, 1, LARGE);
     let mut basis = Vec::new(alloc);
     basis.push(1)?;
+    let mut heads = Vec::new(alloc);
+    heads.push(0)?;
+    heads.push(1)?;
     Ok(Tableau {
-        columns: 1,
-        rows,
-        basis,
+        condensed: Condensed {
+            columns: 1,
+            rows,
+            basis,
+            heads,
+        },
     })
 }
 

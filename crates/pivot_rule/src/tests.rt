@@ -1,4 +1,5 @@
 ghost use Rattle.std.specs.Prelude.{◌≡◌, IfOk};
+ghost use Rattle.pivot_definitions.specs.Programs.{IsProgram, IsCapped};
 ghost use Rattle.pivot_rule.specs.Ends.{IsCappedStart};
 
 use super::*;
@@ -11,6 +12,27 @@ const LARGEST: i128 = i128::MAX;
 // 2^126, of which twice is past an entry.
 const LARGE: i128 = 0x4000_0000_0000_0000_0000_0000_0000_0000;
 
+fn capped(
+    alloc: Global,
+    columns: u32,
+    rows: u32,
+    coefs: &[i128],
+    right: &[i128],
+) -> Result<Program, Fail>
+    ensures program { IfOk result IsProgram }
+    ensures capped { IfOk result IsCapped }
+    ensures columns { IfOk result (λ program. program.columns ≡ columns) }
+{
+    if !Program::fits(columns, rows, coefs, right) {
+        return Err(Fail::from("these make no program"));
+    }
+    let program = Program::of(columns, rows, coefs.to_vec(alloc)?, right.to_vec(alloc)?);
+    if !program.is_capped() {
+        return Err(Fail::from("the last row is no cap"));
+    }
+    Ok(program)
+}
+
 fn started(
     alloc: Global,
     columns: u32,
@@ -21,14 +43,18 @@ fn started(
     ensures capped { IfOk result IsCappedStart }
     ensures columns { IfOk result (λ tableau. tableau.columns ≡ columns) }
 {
-    if !Program::fits(columns, rows, coefs, right) {
-        return Err(Fail::from("these make no program"));
-    }
-    let program = Program::of(columns, rows, coefs.to_vec(alloc)?, right.to_vec(alloc)?);
-    if !program.is_capped() {
-        return Err(Fail::from("the last row is no cap"));
-    }
+    let program = capped(alloc, columns, rows, coefs, right)?;
     Ok(Tableau::build(alloc, &program)?)
+}
+
+// Runs a program in a tableau that may have been used before.
+fn ran(tableau: &mut Tableau, program: &Program, budget: u32) -> Result<RunEnd, Fail>
+    requires program { IsProgram program.now }
+    requires capped { IsCapped program.now }
+    ensures { IfOk result (λ _. tableau.new.columns ≡ program.now.columns) }
+{
+    tableau.rebuild(program)?;
+    Ok(run(tableau, budget))
 }
 
 fn has_basis(tableau: &Tableau, basis: &[u32]) -> bool {
@@ -42,11 +68,12 @@ fn has_multipliers(tableau: &Tableau, multipliers: &[i128]) -> bool {
 }
 
 // Three results and three offers: each gains 1 at two of them and loses 2 at the third, so no stakes gain at all three.
-fn three_way(alloc: Global) -> Result<Tableau, Fail>
-    ensures capped { IfOk result IsCappedStart }
-    ensures columns { IfOk result (λ tableau. tableau.columns ≡ 4) }
+fn three_way_program(alloc: Global) -> Result<Program, Fail>
+    ensures program { IfOk result IsProgram }
+    ensures capped { IfOk result IsCapped }
+    ensures columns { IfOk result (λ program. program.columns ≡ 4) }
 {
-    started(
+    capped(
         alloc,
         4,
         5,
@@ -57,10 +84,34 @@ fn three_way(alloc: Global) -> Result<Tableau, Fail>
     )
 }
 
+fn three_way(alloc: Global) -> Result<Tableau, Fail>
+    ensures capped { IfOk result IsCappedStart }
+    ensures columns { IfOk result (λ tableau. tableau.columns ≡ 4) }
+{
+    let program = three_way_program(alloc)?;
+    Ok(Tableau::build(alloc, &program)?)
+}
+
 #[test]
 fn ends_at_a_level_of_zero(rt: HostRuntime) -> Result<(), Fail> {
     let mut tableau = three_way(rt.alloc())?;
     assert_eq!(rt; run(&mut tableau, 4096), RunEnd::Best(3));
+    assert!(rt; has_basis(&tableau, &[0, 2, 3, 7, 8]));
+    assert!(rt; has_multipliers(&tableau, &[1, 1, 1, 0, 0]));
+    assert_eq!(rt; tableau.value(0), (0, 3));
+    Ok(())
+}
+
+// A smaller program after a larger one, and the larger one again.
+#[test]
+fn runs_in_a_used_tableau_as_in_a_new_one(rt: HostRuntime) -> Result<(), Fail> {
+    let larger = three_way_program(rt.alloc())?;
+    let smaller = capped(rt.alloc(), 2, 3, &[3, -1, 0, 1, 1, 0], &[0, 2, 1])?;
+    let mut tableau = Tableau::empty(rt.alloc());
+    assert_eq!(rt; ran(&mut tableau, &larger, 2)?, RunEnd::OutOfPivots(2));
+    assert_eq!(rt; ran(&mut tableau, &smaller, 10)?, RunEnd::Best(2));
+    assert_eq!(rt; tableau.value(0), (2, 3));
+    assert_eq!(rt; ran(&mut tableau, &larger, 4096)?, RunEnd::Best(3));
     assert!(rt; has_basis(&tableau, &[0, 2, 3, 7, 8]));
     assert!(rt; has_multipliers(&tableau, &[1, 1, 1, 0, 0]));
     assert_eq!(rt; tableau.value(0), (0, 3));

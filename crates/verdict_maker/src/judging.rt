@@ -34,7 +34,7 @@ fn found_by_plain_run(
     ensures { IfOk result (IsFoundByPlainRun sheet.now budget direction slack_measure) }
 {
     let program = limited(alloc, sheet, classes, Needs::Plain)?;
-    let ran = run_program(alloc, tableau, budget, &program, Stage::Plain)?;
+    let ran = run_program(tableau, budget, &program, Stage::Plain)?;
     match ran {
         Ran::Open(finding) => Ok(finding),
         Ran::AtBest(pivots) => after_plain_run(
@@ -88,7 +88,7 @@ fn found_by_slack_run(
     ensures { IfOk result (IsFoundBySlackRun sheet.now budget direction) }
 {
     let program = limited(alloc, sheet, classes, Needs::Slack)?;
-    let ran = run_program(alloc, tableau, budget, &program, Stage::Slack)?;
+    let ran = run_program(tableau, budget, &program, Stage::Slack)?;
     match ran {
         Ran::Open(finding) => Ok(finding),
         Ran::AtBest(pivots) => {
@@ -158,7 +158,7 @@ pub fn exact_finding(
     let outcomes = classes(alloc, sheet)?;
     let leading = leading(alloc, sheet, &outcomes)?;
     let program = homogeneous(alloc, sheet, &outcomes, &leading)?;
-    let ran = run_program(alloc, tableau, budget, &program, Stage::First)?;
+    let ran = run_program(tableau, budget, &program, Stage::First)?;
     match ran {
         Ran::Open(finding) => Ok(finding),
         Ran::AtBest(pivots) => {

@@ -6,7 +6,6 @@ use finding_definitions::{Finding, Stage, WideAt};
 use fraction_tableau::{Program, Tableau};
 use pivot_rule::{RunEnd, run};
 use scan_types::WantOfMemory;
-use std::alloc::Global;
 
 /// How a run went.
 #[derive(Debug, Drop)]
@@ -19,7 +18,6 @@ pub enum Ran {
 
 /// Runs the program of a stage in this tableau, whatever that was before. Takes all memory before the first pivot.
 pub fn run_program(
-    alloc: Global,
     tableau: &mut Tableau,
     budget: u32,
     program: &Program,
@@ -29,7 +27,7 @@ pub fn run_program(
     requires capped { IsCapped program.now }
     ensures { IfOk result (λ ran. RanAs program.now budget stage ran tableau.new) }
 {
-    tableau.rebuild(alloc, program)?;
+    tableau.rebuild(program)?;
     match run(tableau, budget) {
         RunEnd::Best(pivots) => Ok(Ran::AtBest(pivots)),
         RunEnd::Wide {

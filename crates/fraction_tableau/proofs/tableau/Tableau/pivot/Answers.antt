@@ -1,31 +1,34 @@
-use Rattle.std.proofs.Common.{◌<◌, ℕ, ℤ, List, [], length, get_or, refl, sym, ◌∙◌, subst, subst₂, arith}
-use Rattle.pivot_definitions.specs.Tableaus.{SimplexTableau, IsKeptTableau, IsKeptOrEmpty}
-use Rattle.std.specs.List.{slice_get}
-use Rattle.fraction_tableau.specs.Combinable.{AreApart}
-use Rattle.fraction_tableau.proofs.RowLemmas.{apart_in, after_pivot, kept_here, kept_or_empty, kept_after, pivot_after}
+use Rattle.std.proofs.Common.{◌≡◌, sym, ap, subst, ◌∙◌}
+use Rattle.pivot_definitions.specs.Tableaus.{SimplexTableau, IsKeptPivot, PivotFits, PivotPassesFirst}
+use Rattle.condensed_laws.specs.Tableaus.{CondensedTableau, expanded, condensed_pivot}
+use Rattle.fraction_tableau.specs.Kept.{StandsForKept}
+use Rattle.fraction_tableau.proofs.Lifted.{IsPivot, is_pivot, fits_lifted, passes_lifted, pivot_is_kept, stands_after}
 use Rattle.fraction_tableau.proofs.tableau.Tableau.pivot.Goals as goal
 
-pub combine_others-requires-clause-apart : goal.combine_others-requires-clause-apart
-combine_others-requires-clause-apart c other below differ =
-    let t : SimplexTableau = record { columns = c.self.inside.columns; rows = c.self.inside.rows.items; basis = c.self.inside.basis.items } in
-    let row : c.args.row < length t.basis = subst (λ (s : SimplexTableau). c.args.row < length s.basis) (sym c.self.view_is) c.requires.row in
-    let is : IsKeptTableau t = kept_here t c.args.self.now c.self.view_is c.self.invariant (let q = c.requires.column in omega arith) in
-    let within : other < length t.rows = subst (λ (rows : List (List ℤ)). other < length rows) c.deref_mut.ensures.value below in
-    subst₂ (λ (rows : List (List ℤ)) (basis : List ℕ). AreApart (get_or rows other []) (get_or rows c.args.row []) (slice_get basis other) (get_or basis c.args.row 0)) (sym c.deref_mut.ensures.value) (sym c.deref.ensures.value)
-    (apart_in t t refl is c.args.row other row within differ)
+pub returns-in-Some-clause-passes_first : goal.returns-in-Some-clause-passes_first
+returns-in-Some-clause-passes_first c =
+    let t : CondensedTableau = c.self.inside.condensed in
+    let is : IsPivot t c.args.row c.args.column = is_pivot t c.args.self.now c.args.row c.args.column c.self.view_is c.self.invariant c.requires.row c.requires.column c.requires.not_basic c.requires.positive in
+    subst (λ (s : SimplexTableau). PivotPassesFirst s c.args.row c.args.column c.in-Some.place.row c.in-Some.place.column) c.self.view_is
+    (passes_lifted t c.args.row c.args.column c.in-Some.place.row c.in-Some.place.column is c.in-Some.ensures.some)
 
-pub invariant_of-self : goal.invariant_of-self
-invariant_of-self c =
-    let t : SimplexTableau = record { columns = c.self.inside.columns; rows = c.self.inside.rows.items; basis = c.self.inside.basis.items } in
-    let row : c.args.row < length t.basis = subst (λ (s : SimplexTableau). c.args.row < length s.basis) (sym c.self.view_is) c.requires.row in
-    let is : IsKeptTableau t = kept_here t c.args.self.now c.self.view_is c.self.invariant (let q = c.requires.column in omega arith) in
-    let same = after_pivot t c.args.row c.args.column c.self.inside.rows.len c.deref_mut.result.now c.combine_others.new.rows c.deref_mut.ensures.value c.self.inside.rows.ok.0 c.combine_others.ensures (omega (arith, is.shape.row_count, row)) in
-    subst IsKeptOrEmpty (sym same) (kept_or_empty _ (kept_after t c.args.self.now c.args.row c.args.column c.self.view_is is c.requires.row c.requires.column c.requires.positive c.in_default.ensures.nowhere))
+pub invariant_of-self-2 : goal.invariant_of-self-2
+invariant_of-self-2 c =
+    let t : CondensedTableau = c.self.inside.condensed in
+    let is : IsPivot t c.args.row c.args.column = is_pivot t c.args.self.now c.args.row c.args.column c.self.view_is c.self.invariant c.requires.row c.requires.column c.requires.not_basic c.requires.positive in
+    subst StandsForKept (sym (c.pivot.ensures ∙ ap (λ (s : CondensedTableau). condensed_pivot s c.args.row c.args.column) c.first_passing.ensures.unchanged))
+    (stands_after t c.args.row c.args.column is c.in_default.ensures.none)
 
 pub returns-clause-ok : goal.returns-clause-ok
-returns-clause-ok c plain plain_is =
-    let t : SimplexTableau = record { columns = c.self.inside.columns; rows = c.self.inside.rows.items; basis = c.self.inside.basis.items } in
-    let row : c.args.row < length t.basis = subst (λ (s : SimplexTableau). c.args.row < length s.basis) (sym c.self.view_is) c.requires.row in
-    let is : IsKeptTableau t = kept_here t c.args.self.now c.self.view_is c.self.invariant (let q = c.requires.column in omega arith) in
-    let same = after_pivot t c.args.row c.args.column c.self.inside.rows.len c.deref_mut.result.now c.combine_others.new.rows c.deref_mut.ensures.value c.self.inside.rows.ok.0 c.combine_others.ensures (omega (arith, is.shape.row_count, row)) in
-    same ∙ pivot_after t c.args.self.now c.args.row c.args.column c.self.view_is is c.requires.row c.requires.positive plain plain_is
+returns-clause-ok c =
+    let t : CondensedTableau = c.self.inside.condensed in
+    let is : IsPivot t c.args.row c.args.column = is_pivot t c.args.self.now c.args.row c.args.column c.self.view_is c.self.invariant c.requires.row c.requires.column c.requires.not_basic c.requires.positive in
+    subst (λ (s : SimplexTableau). IsKeptPivot s c.args.row c.args.column (expanded c.pivot.new.self)) c.self.view_is
+    (subst (λ (s : CondensedTableau). IsKeptPivot (expanded t) c.args.row c.args.column (expanded s)) (sym (c.pivot.ensures ∙ ap (λ (s : CondensedTableau). condensed_pivot s c.args.row c.args.column) c.first_passing.ensures.unchanged))
+    (pivot_is_kept t c.args.row c.args.column is))
+
+pub returns-clause-fits : goal.returns-clause-fits
+returns-clause-fits c =
+    let t : CondensedTableau = c.self.inside.condensed in
+    let is : IsPivot t c.args.row c.args.column = is_pivot t c.args.self.now c.args.row c.args.column c.self.view_is c.self.invariant c.requires.row c.requires.column c.requires.not_basic c.requires.positive in
+    subst (λ (s : SimplexTableau). PivotFits s c.args.row c.args.column) c.self.view_is (fits_lifted t c.args.row c.args.column is c.in_default.ensures.none)
