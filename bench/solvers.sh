@@ -5,13 +5,13 @@
 # `arb`, `thin` or `narrow` at level 1. A `wide` or an `out-of-pivots` says nothing of the level: these are counted. Fails at
 # the first difference, between the solvers too, and keeps its sheet.
 #
-#     bench/solvers.sh [SHEETS] [PROGRAM]     240 sheets and crates/arbscan/out/arbscan if not given: a few minutes
+#     bench/solvers.sh [SHEETS] [PROGRAM]     320 sheets and crates/arbscan/out/arbscan if not given: a few minutes
 #
 # It needs `python3`, `glpsol` and `esolver`. Debian has them as: apt-get install python3 glpk-utils qsopt-ex
 set -eu
 export LC_ALL=C
 top=$(cd "$(dirname "$0")/.." && pwd)
-sheets=${1:-240}
+sheets=${1:-320}
 program=$(realpath -m "${2:-$top/crates/arbscan/out/arbscan}")
 
 for needed in glpsol esolver "$program"; do
@@ -30,7 +30,7 @@ wrong() {
 }
 
 for sheet in "$folder"/*; do
-    "$program" once "$sheet"/?*.feed > "$sheet/report" || wrong "the program ended with status $?"
+    "$program" once "$sheet"/*.feed > "$sheet/report" || wrong "the program ended with status $?"
     finding=$(awk '$1 == "finding" { print $2 }' "$sheet/report")
     # Both print whole values of the exact optimum as they are.
     glpsol --exact --noscale --lp "$sheet/program.lp" -w "$sheet/glpsol" > "$sheet/glpsol.log" || wrong "glpsol failed"
