@@ -146,4 +146,5 @@ def main():
     (folder / "program.txt").write_text(" ".join(map(str, numbers)) + "\n")
 
 
-main()
+if __name__ == "__main__":
+    main()
