@@ -24,12 +24,13 @@ AreReadSo left faults told number (end ∷ ends) [] = ⊥
 AreReadSo left faults told number (end ∷ ends) (read ∷ reads) =
     IsReadSo left faults (told number) number end read.text read.lines × AreReadSo left faults told (number + 1) ends reads
 
--- the header of the feed was read, and no more. How the feed stopped is not looked at
+-- the header of the feed was read, and no more. Of how the feed stopped it says no more than that no read failed
 pub record IsBegun {S : Type 0} (left : S → Option (List ℕ)) (faults : S → ℕ) (told : Option (List ℕ)) (number : ℕ) (end : FeedEnd S) (read : FeedRead)
     : Type 0 where
   pub header : Header
   pub first : read.lines ≡ step.Header header ∷ []
   pub so_far : IsReadSo left faults told number (record end { stop = stops.NoMemory }) read.text read.lines
+  pub not_failed : end.stop ≢ stops.ReadFault
   pub clear : IsFirstLineClear (left end.source) read.text
 
 -- so it is of the feeds from this number on

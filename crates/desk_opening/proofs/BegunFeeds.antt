@@ -29,7 +29,7 @@ read_so left faults told number begun is =
 pub are_begun : {S : Type 0} (left : S → Option (List ℕ)) (faults : S → ℕ) (told : ℕ → Option (List ℕ)) (number : ℕ) (begun : List (Begun S)) → AreHeadersRead left told number begun
     → AreBegun left faults told number (begun_ends number begun) (map begun_read begun)
 are_begun left faults told number [] h = tt
-are_begun left faults told number (first ∷ others) h = (record { header = first.header; first = refl; so_far = read_so left faults (told number) number first h.0; clear = h.0.clear }, are_begun left faults told (number + 1) others h.1)
+are_begun left faults told number (first ∷ others) h = (record { header = first.header; first = refl; so_far = read_so left faults (told number) number first h.0; not_failed = λ e. let f : feed_stops.NoMemory ≡ feed_stops.ReadFault = e in absurd (cc); clear = h.0.clear }, are_begun left faults told (number + 1) others h.1)
 
 pub are_read_so : {S : Type 0} (left : S → Option (List ℕ)) (faults : S → ℕ) (told : ℕ → Option (List ℕ)) (number : ℕ) (begun : List (Begun S)) → AreHeadersRead left told number begun
     → AreReadSo left faults told number (begun_ends number begun) (map begun_read begun)

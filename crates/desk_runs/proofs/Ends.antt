@@ -3,6 +3,7 @@ use Rattle.std.proofs.Common.{◌≡◌, ◌≢◌, ℕ, zero, suc, ◌+◌, ◌
 use Rattle.std.specs.List.{list_any}
 use Rattle.std.proofs.lemmas.Bool.{false≢true}
 use Rattle.std.proofs.lemmas.List.Folds.{Any-from_list_any, list_any-from_Any, list_any_none, list_any_at}
+use Rattle.std.proofs.lemmas.List.Elements.{All-append}
 use Rattle.std.proofs.lemmas.Option.{option_and_then_some, slice_get_within, slice_get-get_or}
 use Rattle.std.proofs.Math.Seq.{get_or-append_seam}
 use Rattle.board_definitions.specs.declared.event.FeedStop.{FeedStop}
@@ -99,6 +100,12 @@ module _ {S : Type 0} where
       different earlier later x twins.order (slice_get_within ends later y is_y)
       (ap (λ (end : FeedEnd S). book_of end) (at_place ends earlier x x is_x) ∙ book_x ∙ sym (ap (λ (end : FeedEnd S). book_of end) (at_place ends later y x is_y) ∙ book_y))))
 
+  -- none of the feeds stopped so, and one more did not
+  pub none_more : (stop : FeedStop) (ends front : List (FeedEnd S)) (last : FeedEnd S) → ends ≡ front ++ last ∷ [] → NoneStops stop front → last.stop ≢ stop → NoneStops stop ends
+  none_more stop ends front last are none other =
+      let P : FeedEnd S → Type 0 = λ end. end.stop ≢ stop in
+      subst (λ (all : List (FeedEnd S)). All P all) (sym are) (All-append P front (last ∷ []) none (all_cons P last [] other (λ k d lt. absurd (omega (arith, lt)))))
+
   any_fault : (ends : List (FeedEnd S)) → list_any (λ end. is_read_fault end.stop) ends ≡ true → SomeStop stops.ReadFault ends
   any_fault ends h = let a = Any-from_list_any (λ (end : FeedEnd S). is_read_fault end.stop) ends h in (a.0, a.1, a.2, a.3, fault_stop a.1.stop a.4)
 
@@ -170,3 +177,9 @@ module _ {S : Type 0} where
     begun_headers told number [] reads so = λ k d lt. absurd (omega (arith, lt))
     begun_headers told number (end ∷ ends) [] so = absurd so
     begun_headers told number (end ∷ ends) (read ∷ reads) so = all_cons (λ (end : FeedEnd S). IsSome end.header) end ends (header_of_begun (told number) number end read so.0) (begun_headers told (number + 1) ends reads so.1)
+
+    -- no read of feeds that were begun has failed
+    pub begun_not_failed : (told : ℕ → Option (List ℕ)) (number : ℕ) (ends : List (FeedEnd S)) (reads : List FeedRead) → AreBegun left faults told number ends reads → NoneStops stops.ReadFault ends
+    begun_not_failed told number [] reads so = λ k d lt. absurd (omega (arith, lt))
+    begun_not_failed told number (end ∷ ends) [] so = absurd so
+    begun_not_failed told number (end ∷ ends) (read ∷ reads) so = all_cons (λ (end : FeedEnd S). end.stop ≢ stops.ReadFault) end ends so.0.not_failed (begun_not_failed told (number + 1) ends reads so.1)

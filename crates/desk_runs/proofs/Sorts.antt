@@ -16,7 +16,7 @@ use Rattle.desk_definitions.specs.Opening.{told_bytes, HasSources, LacksSource}
 use Rattle.desk_definitions.specs.Course.{Outcome, IsUnbegun, IsDueForHeader, IsDue, IsCourse, WritesNothing, HasNoHeader}
 use Rattle.desk_definitions.specs.Causes.{IsOrYields, HaveRun, SomeStop, NoneStops, HasFailedRead, EndsWithout, HaveTwins, IsReported}
 use Rattle.desk_runs.specs.Runs.{HasFailedOpening, HasCauses}
-use Rattle.desk_runs.proofs.Ends.{has_header, not_nothing, one_stop, no_twins, fault_found, cut_found, no_fault_found, StatusSays, Fault, Limit, Whole, status_says, all_ended, none_stops, counted_fault, last_fault, begun_headers}
+use Rattle.desk_runs.proofs.Ends.{has_header, not_nothing, one_stop, no_twins, fault_found, cut_found, no_fault_found, StatusSays, Fault, Limit, Whole, status_says, all_ended, none_stops, counted_fault, last_fault, begun_headers, begun_not_failed, none_more}
 
 -- a name stands once more among all names than among those before it
 times_more : (name other : List ℕ) (earlier : List (List ℕ)) → times other (earlier ++ name ∷ []) ≡ times other earlier + cond (bytes_eq name other) 1 0
@@ -51,8 +51,8 @@ module _ {S : Type 0} (left : S → Option (List ℕ)) (faults : S → ℕ) (nam
   data Sort (ends : List (FeedEnd S)) (status : ℕ) : Type 0 where
     Unopened : status ≡ NOT_OPENED → HasFailedOpening names opener → ends ≡ [] → Sort ends status
     Unread : status ≡ NOT_READ → EndsWithout stops.ReadFault ends → HasFailedRead faults ends → Sort ends status
-    Malformed : status ≡ BAD_HEADER → EndsWithout stops.BadHeader ends → Sort ends status
-    Twins : status ≡ BAD_HEADER → HaveTwins (length names) ends → Sort ends status
+    Malformed : status ≡ BAD_HEADER → EndsWithout stops.BadHeader ends → NoneStops stops.ReadFault ends → Sort ends status
+    Twins : status ≡ BAD_HEADER → HaveTwins (length names) ends → NoneStops stops.ReadFault ends → Sort ends status
     Read : IsRead ends status → Sort ends status
 
   header_sort : (out : Outcome S) (due : Due) (told : ℕ → Option (List ℕ)) (h : HasNoHeader left faults told (length names) out due) (s : FeedStop) → h.last.stop ≡ s → IsDueForHeader s (length h.front) h.read due →
@@ -67,6 +67,7 @@ module _ {S : Type 0} (left : S → Option (List ℕ)) (faults : S → ℕ) (nam
   header_sort out due told h stops.BadHeader e d =
       Malformed (ap (λ (x : Due). x.status) d.2)
       (record { front = h.front; last = h.last; are = h.begun_are; no_header = h.last_read.is_end.header ∙ h.no_header; stop_is = e })
+      (none_more stops.ReadFault out.ends h.front h.last h.begun_are (begun_not_failed left faults told 0 h.front h.reads h.begun) (λ f. let g = sym e ∙ f in absurd (cc)))
 
   due_sort : (out : Outcome S) (due : Due) → IsDue left faults names budget opener out due → Sort out.ends due.status
   due_sort out due (inl unopened) = Unopened (ap (λ (x : Due). x.status) unopened.due_is) (record { feed = unopened.feed; fails = unopened.fails }) unopened.unbegun.no_feed
@@ -74,6 +75,7 @@ module _ {S : Type 0} (left : S → Option (List ℕ)) (faults : S → ℕ) (nam
   due_sort out due (inr (opens, inr (inl h))) =
       Twins (ap (λ (x : Due). x.status) h.due_is)
       (record { all_named = h.all_named; headers = begun_headers left faults (told_bytes opener.told names) 0 out.ends h.reads h.begun; earlier = h.earlier; later = h.later; twins = h.twins })
+      (begun_not_failed left faults (told_bytes opener.told names) 0 out.ends h.reads h.begun)
   due_sort out due (inr (opens, inr (inr h))) =
       Read (record {
         run = record { all_named = h.bodies.all_named; headers = h.bodies.headers; different = h.bodies.different };
@@ -91,8 +93,8 @@ module _ {S : Type 0} (left : S → Option (List ℕ)) (faults : S → ℕ) (nam
   due_read : (ends : List (FeedEnd S)) (status : ℕ) → HaveRun (length names) ends → Sort ends status → IsRead ends status
   due_read ends status run (Unopened e failed none) = absurd (no_name ends run failed none)
   due_read ends status run (Unread e without failed) = absurd (has_header stops.ReadFault ends without run.headers)
-  due_read ends status run (Malformed e without) = absurd (has_header stops.BadHeader ends without run.headers)
-  due_read ends status run (Twins e twins) = absurd (no_twins ends twins.earlier twins.later twins.twins run.different)
+  due_read ends status run (Malformed e without good) = absurd (has_header stops.BadHeader ends without run.headers)
+  due_read ends status run (Twins e twins good) = absurd (no_twins ends twins.earlier twins.later twins.twins run.different)
   due_read ends status run (Read r) = r
 
   fault_due : (ends : List (FeedEnd S)) (status : ℕ) → SomeStop stops.ReadFault ends → StatusSays ends status → status ≡ NOT_READ
@@ -105,33 +107,33 @@ module _ {S : Type 0} (left : S → Option (List ℕ)) (faults : S → ℕ) (nam
   limit_due ends status none some (Limit e f a) = e
   limit_due ends status none some (Whole e f c) = absurd (false≢true (sym c ∙ cut_found ends some))
 
-  header_fault_due : (ends : List (FeedEnd S)) (status : ℕ) → EndsWithout stops.ReadFault ends → Sort ends status → status ≡ NOT_READ
-  header_fault_due ends status w (Unopened e failed none) = absurd (not_nothing stops.ReadFault ends w none)
-  header_fault_due ends status w (Unread e without failed) = e
-  header_fault_due ends status w (Malformed e without) = absurd (let h = one_stop stops.ReadFault stops.BadHeader ends w without in cc)
-  header_fault_due ends status w (Twins e twins) = absurd (has_header stops.ReadFault ends w twins.headers)
-  header_fault_due ends status w (Read r) = absurd (has_header stops.ReadFault ends w r.run.headers)
+  failed_due : (ends : List (FeedEnd S)) (status : ℕ) → SomeStop stops.ReadFault ends → Sort ends status → status ≡ NOT_READ
+  failed_due ends status some (Unopened e failed none) = absurd (omega (arith, some.2, ap (λ (l : List (FeedEnd S)). length l) none))
+  failed_due ends status some (Unread e without failed) = e
+  failed_due ends status some (Malformed e without good) = absurd (false≢true (sym (no_fault_found ends good) ∙ fault_found ends some))
+  failed_due ends status some (Twins e twins good) = absurd (false≢true (sym (no_fault_found ends good) ∙ fault_found ends some))
+  failed_due ends status some (Read r) = fault_due ends status some r.says
 
   malformed_due : (ends : List (FeedEnd S)) (status : ℕ) → EndsWithout stops.BadHeader ends → Sort ends status → status ≡ BAD_HEADER
   malformed_due ends status w (Unopened e failed none) = absurd (not_nothing stops.BadHeader ends w none)
   malformed_due ends status w (Unread e without failed) = absurd (let h = one_stop stops.BadHeader stops.ReadFault ends w without in cc)
-  malformed_due ends status w (Malformed e without) = e
-  malformed_due ends status w (Twins e twins) = absurd (has_header stops.BadHeader ends w twins.headers)
+  malformed_due ends status w (Malformed e without good) = e
+  malformed_due ends status w (Twins e twins good) = absurd (has_header stops.BadHeader ends w twins.headers)
   malformed_due ends status w (Read r) = absurd (has_header stops.BadHeader ends w r.run.headers)
 
   twins_due : (ends : List (FeedEnd S)) (status : ℕ) → HaveTwins (length names) ends → Sort ends status → status ≡ BAD_HEADER
   twins_due ends status t (Unopened e failed none) = absurd (no_name_twins ends t failed none)
   twins_due ends status t (Unread e without failed) = absurd (has_header stops.ReadFault ends without t.headers)
-  twins_due ends status t (Malformed e without) = e
-  twins_due ends status t (Twins e twins) = e
+  twins_due ends status t (Malformed e without good) = e
+  twins_due ends status t (Twins e twins good) = e
   twins_due ends status t (Read r) = absurd (no_twins ends t.earlier t.later t.twins r.run.different)
 
   -- a status by its cause
   opened_by : (ends : List (FeedEnd S)) (status : ℕ) → status ≡ NOT_OPENED → Sort ends status → HasFailedOpening names opener
   opened_by ends status e (Unopened f failed none) = failed
   opened_by ends status e (Unread f without failed) = absurd (omega (arith, e, f))
-  opened_by ends status e (Malformed f without) = absurd (omega (arith, e, f))
-  opened_by ends status e (Twins f twins) = absurd (omega (arith, e, f))
+  opened_by ends status e (Malformed f without good) = absurd (omega (arith, e, f))
+  opened_by ends status e (Twins f twins good) = absurd (omega (arith, e, f))
   opened_by ends status e (Read r) = by_says r.says
     where
       by_says : StatusSays ends status → HasFailedOpening names opener
@@ -142,8 +144,8 @@ module _ {S : Type 0} (left : S → Option (List ℕ)) (faults : S → ℕ) (nam
   read_by : (ends : List (FeedEnd S)) (status : ℕ) → status ≡ NOT_READ → Sort ends status → HasFailedRead faults ends
   read_by ends status e (Unopened f failed none) = absurd (omega (arith, e, f))
   read_by ends status e (Unread f without failed) = failed
-  read_by ends status e (Malformed f without) = absurd (omega (arith, e, f))
-  read_by ends status e (Twins f twins) = absurd (omega (arith, e, f))
+  read_by ends status e (Malformed f without good) = absurd (omega (arith, e, f))
+  read_by ends status e (Twins f twins good) = absurd (omega (arith, e, f))
   read_by ends status e (Read r) = by_says r.says
     where
       by_says : StatusSays ends status → HasFailedRead faults ends
@@ -154,8 +156,8 @@ module _ {S : Type 0} (left : S → Option (List ℕ)) (faults : S → ℕ) (nam
   header_by : (ends : List (FeedEnd S)) (status : ℕ) → status ≡ BAD_HEADER → Sort ends status → EndsWithout stops.BadHeader ends ⊎ HaveTwins (length names) ends
   header_by ends status e (Unopened f failed none) = absurd (omega (arith, e, f))
   header_by ends status e (Unread f without failed) = absurd (omega (arith, e, f))
-  header_by ends status e (Malformed f without) = inl without
-  header_by ends status e (Twins f twins) = inr twins
+  header_by ends status e (Malformed f without good) = inl without
+  header_by ends status e (Twins f twins good) = inr twins
   header_by ends status e (Read r) = by_says r.says
     where
       by_says : StatusSays ends status → EndsWithout stops.BadHeader ends ⊎ HaveTwins (length names) ends
@@ -166,8 +168,8 @@ module _ {S : Type 0} (left : S → Option (List ℕ)) (faults : S → ℕ) (nam
   cut_by : (ends : List (FeedEnd S)) (status : ℕ) → status ≡ CUT → Sort ends status → HaveRun (length names) ends × NoneStops stops.ReadFault ends × SomeStop stops.Cut ends
   cut_by ends status e (Unopened f failed none) = absurd (omega (arith, e, f))
   cut_by ends status e (Unread f without failed) = absurd (omega (arith, e, f))
-  cut_by ends status e (Malformed f without) = absurd (omega (arith, e, f))
-  cut_by ends status e (Twins f twins) = absurd (omega (arith, e, f))
+  cut_by ends status e (Malformed f without good) = absurd (omega (arith, e, f))
+  cut_by ends status e (Twins f twins good) = absurd (omega (arith, e, f))
   cut_by ends status e (Read r) = by_says r.says
     where
       by_says : StatusSays ends status → HaveRun (length names) ends × NoneStops stops.ReadFault ends × SomeStop stops.Cut ends
@@ -179,8 +181,8 @@ module _ {S : Type 0} (left : S → Option (List ℕ)) (faults : S → ℕ) (nam
   other_status : (ends : List (FeedEnd S)) (status : ℕ) → Sort ends status → (status ≢ NOT_WRITTEN) × (status ≢ WANT_OF_MEMORY)
   other_status ends status (Unopened f failed none) = (λ e. omega (arith, e, f), λ e. omega (arith, e, f))
   other_status ends status (Unread f without failed) = (λ e. omega (arith, e, f), λ e. omega (arith, e, f))
-  other_status ends status (Malformed f without) = (λ e. omega (arith, e, f), λ e. omega (arith, e, f))
-  other_status ends status (Twins f twins) = (λ e. omega (arith, e, f), λ e. omega (arith, e, f))
+  other_status ends status (Malformed f without good) = (λ e. omega (arith, e, f), λ e. omega (arith, e, f))
+  other_status ends status (Twins f twins good) = (λ e. omega (arith, e, f), λ e. omega (arith, e, f))
   other_status ends status (Read r) = by_says r.says
     where
       by_says : StatusSays ends status → (status ≢ NOT_WRITTEN) × (status ≢ WANT_OF_MEMORY)
@@ -210,8 +212,8 @@ module _ {S : Type 0} (left : S → Option (List ℕ)) (faults : S → ℕ) (nam
         header_not_done : Sort out.ends due.status → ⊥
         header_not_done (Unopened f failed none) = omega (arith, e, f, written.status_is)
         header_not_done (Unread f without failed) = omega (arith, e, f, written.status_is)
-        header_not_done (Malformed f without) = omega (arith, e, f, written.status_is)
-        header_not_done (Twins f twins) = omega (arith, e, f, written.status_is)
+        header_not_done (Malformed f without good) = omega (arith, e, f, written.status_is)
+        header_not_done (Twins f twins good) = omega (arith, e, f, written.status_is)
         header_not_done (Read r) = has_header h.last.stop out.ends (record { front = h.front; last = h.last; are = h.begun_are; no_header = h.last_read.is_end.header ∙ h.no_header; stop_is = refl }) r.run.headers
     done_by (inl (due, inr (opens, inr (inl h)), inl written)) e = absurd (omega (arith, e, written.status_is, ap (λ (x : Due). x.status) h.due_is))
     done_by (inl (due, inr (opens, inr (inr h)), inl written)) e = by_says (status_says out.ends due.status h.status_is)
@@ -263,8 +265,7 @@ module _ {S : Type 0} (left : S → Option (List ℕ)) (faults : S → ℕ) (nam
       none_begun = λ k lt lacks. none_begun_by k lt lacks course;
       opener_faults = opener_by course;
       not_read = λ e. read_by out.ends status e (sort_of course (λ f. omega (arith, e, f)) (λ f. omega (arith, e, f)));
-      not_read_due = λ run some. yields NOT_READ (λ due s. fault_due out.ends due some (due_read out.ends due run s).says) course;
-      header_not_read_due = λ w. yields NOT_READ (λ due s. header_fault_due out.ends due w s) course;
+      not_read_due = λ some. yields NOT_READ (λ due s. failed_due out.ends due some s) course;
       not_written = not_written_by course;
       else_written = else_written_by course;
       bad_header = λ e. header_by out.ends status e (sort_of course (λ f. omega (arith, e, f)) (λ f. omega (arith, e, f)));

@@ -22,8 +22,7 @@ pub record HasCauses {S : Type 0} (left : S → Option (List ℕ)) (faults : S �
   pub none_begun : (k : ℕ) → k < length names → LacksSource opener.told names k → IsUnbegun out
   pub opener_faults : (opener.faults_after ≡ opener.faults_before) ⊎ (HasFailedOpening names opener × IsOrYields NOT_OPENED status)
   pub not_read : status ≡ NOT_READ → HasFailedRead faults out.ends
-  pub not_read_due : HaveRun (length names) out.ends → SomeStop stops.ReadFault out.ends → IsOrYields NOT_READ status
-  pub header_not_read_due : EndsWithout stops.ReadFault out.ends → IsOrYields NOT_READ status
+  pub not_read_due : SomeStop stops.ReadFault out.ends → IsOrYields NOT_READ status
   pub not_written : status ≡ NOT_WRITTEN → Rose sink.faults_before sink.faults_after
   pub else_written : status ≢ NOT_WRITTEN → sink.faults_after ≡ sink.faults_before
   pub bad_header : status ≡ BAD_HEADER → EndsWithout stops.BadHeader out.ends ⊎ HaveTwins (length names) out.ends

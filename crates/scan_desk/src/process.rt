@@ -1,6 +1,7 @@
 //! From the arguments of the process to its exit status.
-ghost use Rattle.std.specs.Prelude.{◌≡◌, map, string_bytes};
+ghost use Rattle.std.specs.Prelude.{◌≡◌, ◌≢◌, map, string_bytes};
 ghost use Rattle.std.specs.Process.{exit_status};
+ghost use Rattle.desk_definitions.specs.declared.status.TheConstants.{NOT_READ};
 ghost use Rattle.desk_definitions.specs.Seen.{opener_seen, sink_seen};
 ghost use Rattle.scan_desk.specs.Process.{EndsWith, words_of};
 
@@ -33,6 +34,7 @@ pub fn exit_code<O: Opener, K: Sink>(
     ensures ends_with { EndsWith O.S.left O.S.faults (words_of (map string_bytes arguments.now))
         (opener_seen O.told O.opens_told O.faults opener.old opener.new) (exit_status result)
         (sink_seen K.written K.faults sink.old sink.new) }
+    ensures read_as_promised { O.promises opener.old → exit_status result ≢ NOT_READ }
 {
     let end = desk(alloc, words_of(arguments), opener, sink);
     ExitCode::from(end.status)

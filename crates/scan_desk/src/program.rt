@@ -110,12 +110,10 @@ pub fn desk<O: Opener, K: Sink>(
         k < length feeds → LacksSource (O.told opener.old) feeds k → result.feeds.items ≡ [] }
     ensures opener_faults { (O.faults opener.new ≡ O.faults opener.old) ⊎ IsOrYields NOT_OPENED result.status }
 
-    // Status 4 comes only if a read of a feed failed. It is due if that was while a header was read, or if the bodies were read and one of
-    // them stopped so. No failed read is hidden: a source whose feed has another stop counted none.
+    // Status 4 comes only if a read of a feed failed, and is due if a feed that was begun stopped so. No failed read is hidden: a source
+    // whose feed has another stop counted none.
     ensures not_read { result.status ≡ NOT_READ → HasFailedRead O.S.faults result.feeds.items }
-    ensures not_read_due { (pivots : ℕ) (feeds : List Text) → AsksOnce (map string_bytes words.now) pivots feeds →
-        HaveRun (length feeds) result.feeds.items → SomeStop stops.ReadFault result.feeds.items → IsOrYields NOT_READ result.status }
-    ensures header_not_read_due { EndsWithout stops.ReadFault result.feeds.items → IsOrYields NOT_READ result.status }
+    ensures not_read_due { SomeStop stops.ReadFault result.feeds.items → IsOrYields NOT_READ result.status }
     ensures read_as_promised { O.promises opener.old → result.status ≢ NOT_READ }
     ensures source_faults { All (λ end. end.stop ≢ stops.ReadFault → O.S.faults end.source ≡ 0) result.feeds.items }
 

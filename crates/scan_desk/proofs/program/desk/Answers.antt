@@ -39,13 +39,13 @@ returns-in-Ok-clause-history g c = λ pivots feeds asks ran not_seven.
     (c.bodies_are_in_the_history.ensures names c.once_words-pivots.result.0 c.once.result.status c.args.opener.now c.once.new.opener c.args.sink.now c.once.new.sink out
     c.once.ensures.course (subst P same ran) not_seven))
 
-pub returns-in-Ok-clause-header_not_read_due : goal.returns-in-Ok-clause-header_not_read_due
-returns-in-Ok-clause-header_not_read_due g c =
+pub returns-in-Ok-clause-not_read_due : goal.returns-in-Ok-clause-not_read_due
+returns-in-Ok-clause-not_read_due g c =
     let names = map (string_bytes {Z = Global}) c.names.result.now in
     let out : Outcome g.row.O-S.Denot = record { ends = c.once.result.feeds.items; history = c.once.result.history.items } in
     let causes = c.statuses_have_causes.ensures names c.once_words-pivots.result.0 c.once.result.status c.args.opener.now c.once.new.opener c.args.sink.now c.once.new.sink out
     c.once.ensures.course in
-    causes.header_not_read_due
+    causes.not_read_due
 
 pub returns-in-Ok-clause-else_written : goal.returns-in-Ok-clause-else_written
 returns-in-Ok-clause-else_written g c =
@@ -91,13 +91,6 @@ returns-in-Ok-clause-none_begun g c = λ pivots feeds k asks named lacks.
     let same = same_feeds words pivots _ feeds _ asks (c.in-Ok.ensures.command ∙ ap Some c.once_words-pivots.ensures) ∙ sym c.names.ensures in
     let each = ap length same ∙ length-map c.names.result.now (string_bytes {Z = Global}) in
     c.once.ensures.none_begun k (omega (arith, named, each)) (subst P same lacks)
-
-pub returns-in-Ok-clause-not_read_due : goal.returns-in-Ok-clause-not_read_due
-returns-in-Ok-clause-not_read_due g c = λ pivots feeds asks ran.
-    let words = map (string_bytes {Z = Global}) c.args.words.now in
-    let same = same_feeds words pivots _ feeds _ asks (c.in-Ok.ensures.command ∙ ap Some c.once_words-pivots.ensures) ∙ sym c.names.ensures in
-    let P : ℕ → Type 0 = λ n. HaveRun n c.once.result.feeds.items in
-    c.once.ensures.not_read_due (subst P (ap length same ∙ length-map c.names.result.now (string_bytes {Z = Global})) ran)
 
 pub returns-in-Ok-clause-one_book_due : goal.returns-in-Ok-clause-one_book_due
 returns-in-Ok-clause-one_book_due g c = λ pivots feeds asks twins.
@@ -148,10 +141,7 @@ returns-in-Err-NoCommand-clause-not_opened_due g c = λ pivots feeds k asks name
     absurd (asks_nothing words pivots feeds none asks)
 
 pub returns-in-Err-NoCommand-clause-not_read_due : goal.returns-in-Err-NoCommand-clause-not_read_due
-returns-in-Err-NoCommand-clause-not_read_due g c = λ pivots feeds asks ran.
-    let words = map (string_bytes {Z = Global}) c.args.words.now in
-    let none = (c.no_command_has_a_cause.ensures words).1 (c.in-Err-NoCommand.ensures.no_command (ap Err c.in-Err-NoCommand.field-0-is)) in
-    absurd (asks_nothing words pivots feeds none asks)
+returns-in-Err-NoCommand-clause-not_read_due g c = λ some. absurd (omega (arith, some.2, ap (λ ends. length ends) c.unbegun.ensures.unbegun.no_feed))
 
 pub returns-in-Err-NoCommand-clause-one_book_due : goal.returns-in-Err-NoCommand-clause-one_book_due
 returns-in-Err-NoCommand-clause-one_book_due g c = λ pivots feeds asks twins.
