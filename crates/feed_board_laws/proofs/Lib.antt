@@ -1,4 +1,3 @@
-mod Through
 pub mod Stands
 pub mod Takes
 pub mod Accepts

@@ -17,36 +17,17 @@ use Rattle.board_definitions.specs.Entries as entries
 use Rattle.board_definitions.specs.Sheets.{stands}
 use Rattle.board_definitions.proofs.Keys.{is_key_parts}
 use Rattle.report_laws.specs.Boards.{line_in}
-use Rattle.feed_board_laws.proofs.Through.{find_through, filter_map-reverse}
+use Rattle.report_laws.proofs.Through.{find_through, filter_map-reverse}
+use Rattle.report_laws.proofs.Boards.{agree, at_feed, line_of_key}
 use Rattle.feed_board_laws.specs.Bodies.{lines_in}
-
-abbrev line_of_key : Key → ℕ → Change → Accepted
-line_of_key key line change = record { line = line; match_name = key.match_name; selection = key.selection; change = change }
-
-middle : (q : Accepted → Bool) (line : Accepted) (a b c : Bool) → q line ≡ (a && c) → (a && (b && c)) ≡ option_map_or q (cond b (Some line) None) false
-middle q line a true c e = sym e
-middle q line true false c e = refl
-middle q line false false c e = refl
-
--- the entry is about what its line is about
-agree : (m : List ℕ) (k n : ℕ) (event : Event) → entries.is_about m k n event ≡ option_map_or (text.is_about m n) (line_in k event) false
-agree m k n (Quoted key odds limit line) = middle (text.is_about m n) (line_of_key key line (Quote odds limit)) (bytes_eq key.match_name m) (key.feed == k) (selection_number key.selection == n) refl
-agree m k n (Withdrawn key line) = middle (text.is_about m n) (line_of_key key line Withdraw) (bytes_eq key.match_name m) (key.feed == k) (selection_number key.selection == n) refl
-agree m k n (Ended feed stop) = refl
-agree m k n (Pinned match_name) = refl
-agree m k n (Filed version finding) = refl
-agree m k n (Released version) = refl
 
 abbrev line_quotes : Accepted → Option Bool
 line_quotes line = Some (text.is_quote line.change)
 
-at_feed : (line : Accepted) (a b : ℕ) → a ≡ b → line_quotes line ≡ option_and_then line_quotes (cond (a == b) (Some line) None)
-at_feed line a b e = subst (λ (c : Bool). line_quotes line ≡ option_and_then line_quotes (cond c (Some line) None)) (sym ((Decides-eqb a b).1 e)) refl
-
--- and quotes if its line does
+-- an entry that is about this quotes if its line does
 quotes : (m : List ℕ) (k n : ℕ) (event : Event) → entries.is_about m k n event ≡ true → Some (entries.is_quote event) ≡ option_and_then line_quotes (line_in k event)
-quotes m k n (Quoted key odds limit line) h = at_feed (line_of_key key line (Quote odds limit)) key.feed k (is_key_parts m k n key h).1
-quotes m k n (Withdrawn key line) h = at_feed (line_of_key key line Withdraw) key.feed k (is_key_parts m k n key h).1
+quotes m k n (Quoted key odds limit line) h = at_feed line_quotes (line_of_key key line (Quote odds limit)) key.feed k (is_key_parts m k n key h).1
+quotes m k n (Withdrawn key line) h = at_feed line_quotes (line_of_key key line Withdraw) key.feed k (is_key_parts m k n key h).1
 quotes m k n (Ended feed stop) h = absurd (cc h)
 quotes m k n (Pinned match_name) h = absurd (cc h)
 quotes m k n (Filed version finding) h = absurd (cc h)

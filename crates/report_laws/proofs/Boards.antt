@@ -26,7 +26,7 @@ use Rattle.report_definitions.specs.Seen.{SeenFeed, rule_of, quotes, line_offer,
 use Rattle.report_laws.specs.Boards.{line_in, HoldsLinesOf, quotes_match}
 use Rattle.report_laws.proofs.Through.{find_through, filter_map-reverse, filter_map-same, flat_map-same, any_image, any_weaker}
 
-abbrev line_of_key : Key → ℕ → Change → Accepted
+abbrev pub line_of_key : Key → ℕ → Change → Accepted
 line_of_key key line change = record { line = line; match_name = key.match_name; selection = key.selection; change = change }
 
 -- a test with the feed's in the middle, as a test of the line of that feed
@@ -35,7 +35,7 @@ middle q line a true c e = sym e
 middle q line true false c e = refl
 middle q line false false c e = refl
 
-agree : (m : List ℕ) (k n : ℕ) (event : Event) → entries.is_about m k n event ≡ option_map_or (text.is_about m n) (line_in k event) false
+pub agree : (m : List ℕ) (k n : ℕ) (event : Event) → entries.is_about m k n event ≡ option_map_or (text.is_about m n) (line_in k event) false
 agree m k n (Quoted key odds limit line) = middle (text.is_about m n) (line_of_key key line (Quote odds limit)) (bytes_eq key.match_name m) (key.feed == k) (selection_number key.selection == n) refl
 agree m k n (Withdrawn key line) = middle (text.is_about m n) (line_of_key key line Withdraw) (bytes_eq key.match_name m) (key.feed == k) (selection_number key.selection == n) refl
 agree m k n (Ended feed stop) = refl
@@ -44,7 +44,7 @@ agree m k n (Filed version finding) = refl
 agree m k n (Released version) = refl
 
 -- what is there where the feed is the key's
-at_feed : (h : Accepted → Option Offer) (line : Accepted) (a b : ℕ) → a ≡ b → h line ≡ option_and_then h (cond (a == b) (Some line) None)
+pub at_feed : {X : Type 0} (h : Accepted → Option X) (line : Accepted) (a b : ℕ) → a ≡ b → h line ≡ option_and_then h (cond (a == b) (Some line) None)
 at_feed h line a b e = subst (λ (c : Bool). h line ≡ option_and_then h (cond c (Some line) None)) (sym ((Decides-eqb a b).1 e)) refl
 
 next : (feeds : List SeenFeed) (rules : List (Option VoidRule)) → ((feed : ℕ) → entries.rule_of rules feed ≡ rule_of feeds feed) → (m : List ℕ) (k n : ℕ) (event : Event)

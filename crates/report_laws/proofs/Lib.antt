@@ -1,4 +1,3 @@
-mod Orders
 mod Matches
 pub mod Through
 pub mod Boards

@@ -14,7 +14,7 @@ use Rattle.judging_laws.proofs.RightFindings.{exact_finding_right}
 use Rattle.report_definitions.specs.declared.match_part.MatchPart.{MatchPart}
 use Rattle.report_definitions.specs.Seen.{SeenFeed, IsQuoted, sheet_of}
 use Rattle.report_definitions.specs.Report.{report_text, AreMatchesOf, IsReport}
-use Rattle.report_laws.proofs.Orders.{IsIn, all_at, any_in, below_of, same_lists}
+use Rattle.board_definitions.proofs.Orders.{IsIn, all_at, any_in, below_of, same_lists}
 
 abbrev NameIsBelow : MatchPart → MatchPart → Type 0
 NameIsBelow a b = slice_cmp nat_cmp a.match_name b.match_name ≡ ordering.Less
