@@ -12,6 +12,7 @@ ghost use Rattle.desk_definitions.specs.Causes.{AreGoodFeeds, EndsWithout, HasFa
 use crate::run::run;
 use desk_definitions::DeskEnd;
 use desk_io::{Opener, Sink};
+use desk_runs::{good_feeds_are_done, statuses_have_causes};
 use std::alloc::Global;
 
 /// Opens the feeds of these names, reads them one after another, each to its end or to what stops it before, judges each match that is
@@ -79,5 +80,10 @@ pub fn once<O: Opener, K: Sink>(
     // At status 7 nothing was written.
     ensures no_memory { result.status ≡ WANT_OF_MEMORY → WritesNothing (sink_seen K.written K.faults sink.old sink.new) }
 {
+    prove!({
+        statuses_have_causes::<O, K>();
+        good_feeds_are_done::<O, K>();
+        true
+    });
     run(alloc, names, pivots, opener, sink)
 }

@@ -1,54 +1,130 @@
-use Rattle.std.proofs.Common.{◌⊎◌, ℕ, Global, length, map, string_bytes, sym, subst, arith}
+use Rattle.std.proofs.Common.{◌⊎◌, ℕ, Global, length, map, string_bytes, sym, subst, arith, inl, inr}
 use Rattle.std.proofs.lemmas.List.{length-map}
 use Rattle.board_definitions.specs.declared.event.FeedStop.TheVariants as stops
-use Rattle.desk_definitions.specs.Causes.{EndsWithout, HaveRun, HaveTwins, NoneStops, SomeStop}
-use Rattle.desk_once.proofs.Complete.{complete_of}
-use Rattle.desk_once.proofs.Statuses.{cut_due, lacking_due, none_begun, no_header, no_header_due, one_book_due, opening_failed, read_failed, read_failed_due, reported_of, was_cut}
+use Rattle.desk_definitions.specs.Course.{Outcome}
+use Rattle.desk_definitions.specs.Causes.{AreGoodFeeds, EndsWithout, HaveRun, HaveTwins, IsReported, NoneStops, SomeStop}
+use Rattle.desk_definitions.specs.Opening.{told_bytes}
+use Rattle.desk_definitions.specs.Seen.{sink_seen}
 use Rattle.desk_once.proofs.command.once.Goals as goal
 
-pub returns-clause-not_read : goal.returns-clause-not_read
-returns-clause-not_read g c = read_failed g.O.S.Source.left g.O.S.Source.faults (map string_bytes c.args.names.now) (omega (arith, length-map c.args.names.now (string_bytes {Z = Global}), c.requires.some)) c.args.pivots _ _ c.run.result.status _ c.run.ensures.course
+pub returns-clause-done : goal.returns-clause-done
+returns-clause-done g c = λ done.
+    let names = map (string_bytes {Z = Global}) c.args.names.now in
+    let each = length-map c.args.names.now (string_bytes {Z = Global}) in
+    let out : Outcome g.row.O-S.Denot = record { ends = c.run.result.feeds.items; history = c.run.result.history.items } in
+    let causes = c.statuses_have_causes.ensures names c.args.pivots c.run.result.status c.args.opener.now c.run.new.opener c.args.sink.now c.run.new.sink out c.run.ensures.course in
+    let P : ℕ → Type 0 = λ n. IsReported g.O.S.Source.left g.O.S.Source.faults (told_bytes (g.O.Opener.told c.args.opener.now) names) n c.args.pivots out (sink_seen g.K.Sink.written g.K.Sink.faults c.args.sink.now c.run.new.sink) in
+    subst P each (causes.done done)
 
 pub returns-clause-not_opened : goal.returns-clause-not_opened
-returns-clause-not_opened g c = opening_failed g.O.S.Source.left g.O.S.Source.faults (map string_bytes c.args.names.now) (omega (arith, length-map c.args.names.now (string_bytes {Z = Global}), c.requires.some)) c.args.pivots _ _ c.run.result.status _ c.run.ensures.course
+returns-clause-not_opened g c = λ three.
+    let names = map (string_bytes {Z = Global}) c.args.names.now in
+    let out : Outcome g.row.O-S.Denot = record { ends = c.run.result.feeds.items; history = c.run.result.history.items } in
+    let causes = c.statuses_have_causes.ensures names c.args.pivots c.run.result.status c.args.opener.now c.run.new.opener c.args.sink.now c.run.new.sink out c.run.ensures.course in
+    (let failed = causes.not_opened three in (failed.feed, failed.fails))
 
 pub returns-clause-not_opened_due : goal.returns-clause-not_opened_due
-returns-clause-not_opened_due g c = λ k lt lacks. lacking_due g.O.S.Source.left g.O.S.Source.faults (map string_bytes c.args.names.now) (omega (arith, length-map c.args.names.now (string_bytes {Z = Global}), c.requires.some)) c.args.pivots _ _ c.run.result.status _ c.run.ensures.course k (omega (arith, lt, length-map c.args.names.now (string_bytes {Z = Global}))) lacks
+returns-clause-not_opened_due g c = λ k lt.
+    let names = map (string_bytes {Z = Global}) c.args.names.now in
+    let each = length-map c.args.names.now (string_bytes {Z = Global}) in
+    let out : Outcome g.row.O-S.Denot = record { ends = c.run.result.feeds.items; history = c.run.result.history.items } in
+    let causes = c.statuses_have_causes.ensures names c.args.pivots c.run.result.status c.args.opener.now c.run.new.opener c.args.sink.now c.run.new.sink out c.run.ensures.course in
+    causes.not_opened_due k (omega (arith, lt, each))
 
-pub returns-clause-done : goal.returns-clause-done
-returns-clause-done g c = reported_of g.O.S.Source.left g.O.S.Source.faults (map string_bytes c.args.names.now) (omega (arith, length-map c.args.names.now (string_bytes {Z = Global}), c.requires.some)) c.args.pivots _ _ c.run.result.status _ (length c.args.names.now) (length-map c.args.names.now (string_bytes {Z = Global})) c.run.ensures.course
+pub returns-clause-none_begun : goal.returns-clause-none_begun
+returns-clause-none_begun g c = λ k lt lacks.
+    let names = map (string_bytes {Z = Global}) c.args.names.now in
+    let each = length-map c.args.names.now (string_bytes {Z = Global}) in
+    let out : Outcome g.row.O-S.Denot = record { ends = c.run.result.feeds.items; history = c.run.result.history.items } in
+    let causes = c.statuses_have_causes.ensures names c.args.pivots c.run.result.status c.args.opener.now c.run.new.opener c.args.sink.now c.run.new.sink out c.run.ensures.course in
+    (causes.none_begun k (omega (arith, lt, each)) lacks).no_feed
+
+pub returns-clause-not_read : goal.returns-clause-not_read
+returns-clause-not_read g c =
+    let names = map (string_bytes {Z = Global}) c.args.names.now in
+    let out : Outcome g.row.O-S.Denot = record { ends = c.run.result.feeds.items; history = c.run.result.history.items } in
+    let causes = c.statuses_have_causes.ensures names c.args.pivots c.run.result.status c.args.opener.now c.run.new.opener c.args.sink.now c.run.new.sink out c.run.ensures.course in
+    causes.not_read
 
 pub returns-clause-not_read_due : goal.returns-clause-not_read_due
-returns-clause-not_read_due g c = λ run fault.
+returns-clause-not_read_due g c = λ ran.
+    let names = map (string_bytes {Z = Global}) c.args.names.now in
+    let each = length-map c.args.names.now (string_bytes {Z = Global}) in
+    let out : Outcome g.row.O-S.Denot = record { ends = c.run.result.feeds.items; history = c.run.result.history.items } in
+    let causes = c.statuses_have_causes.ensures names c.args.pivots c.run.result.status c.args.opener.now c.run.new.opener c.args.sink.now c.run.new.sink out c.run.ensures.course in
     let P : ℕ → Type 0 = λ n. HaveRun n c.run.result.feeds.items in
-    read_failed_due g.O.S.Source.left g.O.S.Source.faults (map string_bytes c.args.names.now) (omega (arith, length-map c.args.names.now (string_bytes {Z = Global}), c.requires.some)) c.args.pivots _ _ c.run.result.status _ c.run.ensures.course (subst P (sym (length-map c.args.names.now (string_bytes {Z = Global}))) run) fault
-
-pub returns-clause-cut_due : goal.returns-clause-cut_due
-returns-clause-cut_due g c = λ run none cut.
-    let P : ℕ → Type 0 = λ n. HaveRun n c.run.result.feeds.items in
-    cut_due g.O.S.Source.left g.O.S.Source.faults (map string_bytes c.args.names.now) (omega (arith, length-map c.args.names.now (string_bytes {Z = Global}), c.requires.some)) c.args.pivots _ _ c.run.result.status _ c.run.ensures.course (subst P (sym (length-map c.args.names.now (string_bytes {Z = Global}))) run) none cut
-
-pub returns-clause-cut : goal.returns-clause-cut
-returns-clause-cut g c = λ e.
-    let P : ℕ → Type 0 = λ n. HaveRun n c.run.result.feeds.items × NoneStops stops.ReadFault c.run.result.feeds.items × SomeStop stops.Cut c.run.result.feeds.items in
-    subst P (length-map c.args.names.now (string_bytes {Z = Global})) (was_cut g.O.S.Source.left g.O.S.Source.faults (map string_bytes c.args.names.now) (omega (arith, length-map c.args.names.now (string_bytes {Z = Global}), c.requires.some)) c.args.pivots _ _ c.run.result.status _ c.run.ensures.course e)
+    causes.not_read_due (subst P (sym each) ran)
 
 pub returns-clause-bad_header : goal.returns-clause-bad_header
-returns-clause-bad_header g c = λ e.
+returns-clause-bad_header g c = λ six.
+    let names = map (string_bytes {Z = Global}) c.args.names.now in
+    let each = length-map c.args.names.now (string_bytes {Z = Global}) in
+    let out : Outcome g.row.O-S.Denot = record { ends = c.run.result.feeds.items; history = c.run.result.history.items } in
+    let causes = c.statuses_have_causes.ensures names c.args.pivots c.run.result.status c.args.opener.now c.run.new.opener c.args.sink.now c.run.new.sink out c.run.ensures.course in
     let P : ℕ → Type 0 = λ n. EndsWithout stops.BadHeader c.run.result.feeds.items ⊎ HaveTwins n c.run.result.feeds.items in
-    subst P (length-map c.args.names.now (string_bytes {Z = Global})) (no_header g.O.S.Source.left g.O.S.Source.faults (map string_bytes c.args.names.now) (omega (arith, length-map c.args.names.now (string_bytes {Z = Global}), c.requires.some)) c.args.pivots _ _ c.run.result.status _ c.run.ensures.course e)
+    subst P each (causes.bad_header six)
 
 pub returns-clause-bad_header_due : goal.returns-clause-bad_header_due
-returns-clause-bad_header_due g c = no_header_due g.O.S.Source.left g.O.S.Source.faults (map string_bytes c.args.names.now) (omega (arith, length-map c.args.names.now (string_bytes {Z = Global}), c.requires.some)) c.args.pivots _ _ c.run.result.status _ c.run.ensures.course
+returns-clause-bad_header_due g c =
+    let names = map (string_bytes {Z = Global}) c.args.names.now in
+    let out : Outcome g.row.O-S.Denot = record { ends = c.run.result.feeds.items; history = c.run.result.history.items } in
+    let causes = c.statuses_have_causes.ensures names c.args.pivots c.run.result.status c.args.opener.now c.run.new.opener c.args.sink.now c.run.new.sink out c.run.ensures.course in
+    causes.bad_header_due
 
 pub returns-clause-one_book_due : goal.returns-clause-one_book_due
 returns-clause-one_book_due g c = λ twins.
+    let names = map (string_bytes {Z = Global}) c.args.names.now in
+    let each = length-map c.args.names.now (string_bytes {Z = Global}) in
+    let out : Outcome g.row.O-S.Denot = record { ends = c.run.result.feeds.items; history = c.run.result.history.items } in
+    let causes = c.statuses_have_causes.ensures names c.args.pivots c.run.result.status c.args.opener.now c.run.new.opener c.args.sink.now c.run.new.sink out c.run.ensures.course in
     let P : ℕ → Type 0 = λ n. HaveTwins n c.run.result.feeds.items in
-    one_book_due g.O.S.Source.left g.O.S.Source.faults (map string_bytes c.args.names.now) (omega (arith, length-map c.args.names.now (string_bytes {Z = Global}), c.requires.some)) c.args.pivots _ _ c.run.result.status _ c.run.ensures.course (subst P (sym (length-map c.args.names.now (string_bytes {Z = Global}))) twins)
+    causes.one_book_due (subst P (sym each) twins)
+
+pub returns-clause-cut : goal.returns-clause-cut
+returns-clause-cut g c = λ eight.
+    let names = map (string_bytes {Z = Global}) c.args.names.now in
+    let each = length-map c.args.names.now (string_bytes {Z = Global}) in
+    let out : Outcome g.row.O-S.Denot = record { ends = c.run.result.feeds.items; history = c.run.result.history.items } in
+    let causes = c.statuses_have_causes.ensures names c.args.pivots c.run.result.status c.args.opener.now c.run.new.opener c.args.sink.now c.run.new.sink out c.run.ensures.course in
+    let P : ℕ → Type 0 = λ n. HaveRun n c.run.result.feeds.items × NoneStops stops.ReadFault c.run.result.feeds.items × SomeStop stops.Cut c.run.result.feeds.items in
+    subst P each (causes.cut eight)
+
+pub returns-clause-cut_due : goal.returns-clause-cut_due
+returns-clause-cut_due g c = λ ran.
+    let names = map (string_bytes {Z = Global}) c.args.names.now in
+    let each = length-map c.args.names.now (string_bytes {Z = Global}) in
+    let out : Outcome g.row.O-S.Denot = record { ends = c.run.result.feeds.items; history = c.run.result.history.items } in
+    let causes = c.statuses_have_causes.ensures names c.args.pivots c.run.result.status c.args.opener.now c.run.new.opener c.args.sink.now c.run.new.sink out c.run.ensures.course in
+    let P : ℕ → Type 0 = λ n. HaveRun n c.run.result.feeds.items in
+    causes.cut_due (subst P (sym each) ran)
 
 pub returns-clause-complete : goal.returns-clause-complete
-returns-clause-complete g c = λ feeds fine.
-    complete_of g.O.S.Source.left g.O.S.Source.faults (map string_bytes c.args.names.now) c.args.pivots _ _ c.run.result.status _ (length c.args.names.now) (length-map c.args.names.now (string_bytes {Z = Global})) feeds fine c.run.ensures.course
+returns-clause-complete g c = λ good.
+    let names = map (string_bytes {Z = Global}) c.args.names.now in
+    let each = length-map c.args.names.now (string_bytes {Z = Global}) in
+    let out : Outcome g.row.O-S.Denot = record { ends = c.run.result.feeds.items; history = c.run.result.history.items } in
+    let P : ℕ → Type 0 = λ n. AreGoodFeeds (told_bytes (g.O.Opener.told c.args.opener.now) names) n in
+    c.good_feeds_are_done.ensures names c.args.pivots c.run.result.status c.args.opener.now c.run.new.opener c.args.sink.now c.run.new.sink out c.run.ensures.course (subst P (sym each) good)
 
-pub returns-clause-none_begun : goal.returns-clause-none_begun
-returns-clause-none_begun g c = λ k lt lacks. none_begun g.O.S.Source.left g.O.S.Source.faults (map string_bytes c.args.names.now) (omega (arith, length-map c.args.names.now (string_bytes {Z = Global}), c.requires.some)) c.args.pivots _ _ c.run.result.status _ c.run.ensures.course k (omega (arith, lt, length-map c.args.names.now (string_bytes {Z = Global}))) lacks
+pub returns-clause-not_written : goal.returns-clause-not_written
+returns-clause-not_written g c =
+    let names = map (string_bytes {Z = Global}) c.args.names.now in
+    let out : Outcome g.row.O-S.Denot = record { ends = c.run.result.feeds.items; history = c.run.result.history.items } in
+    let causes = c.statuses_have_causes.ensures names c.args.pivots c.run.result.status c.args.opener.now c.run.new.opener c.args.sink.now c.run.new.sink out c.run.ensures.course in
+    causes.not_written
+
+pub returns-clause-no_memory : goal.returns-clause-no_memory
+returns-clause-no_memory g c =
+    let names = map (string_bytes {Z = Global}) c.args.names.now in
+    let out : Outcome g.row.O-S.Denot = record { ends = c.run.result.feeds.items; history = c.run.result.history.items } in
+    let causes = c.statuses_have_causes.ensures names c.args.pivots c.run.result.status c.args.opener.now c.run.new.opener c.args.sink.now c.run.new.sink out c.run.ensures.course in
+    causes.no_memory
+
+pub returns-clause-course : goal.returns-clause-course
+returns-clause-course g c = c.run.ensures.course
+
+pub returns-clause-source_faults : goal.returns-clause-source_faults
+returns-clause-source_faults g c = c.run.ensures.counted
+
+pub returns-clause-read_as_promised : goal.returns-clause-read_as_promised
+returns-clause-read_as_promised g c = c.run.ensures.promised
