@@ -13,18 +13,10 @@ use Rattle.judging_definitions.specs.Columns.{offer_divisor}
 use Rattle.judging_definitions.specs.Stakes.{Fraction, column_value, stake_in_column, fractional_stakes, all_numbers, floors}
 use Rattle.judging_laws.proofs.Spread.{place, later, place_here, place_later}
 use Rattle.judging_laws.proofs.Levels.{best_facts}
-use Rattle.judging_laws.proofs.Parts.{floors_within}
+use Rattle.judging_laws.proofs.Parts.{floors_within, place_in_range}
 use Rattle.coherence_lp.specs.Ends.{IsBestEnd, IsLimitedEnd}
 use Rattle.coherence_lp.proofs.EndFacts.{reached_shape}
 use Rattle.coherence_lp.proofs.StakeLists.{length-stakes, stake_at}
-
-place_in_range : (a n k : ℕ) → k < n → place (a + k) (range_with_len a n) ≡ Some k
-place_in_range a zero k h = absurd (omega arith)
-place_in_range a (suc n) zero h = ap (λ m. place m (a ∷ range_with_len (a + 1) n)) (let e : a + 0 ≡ a = omega arith in e) ∙ place_here a (range_with_len (a + 1) n)
-place_in_range a (suc n) (suc k) h =
-    place_later (a + suc k) a (range_with_len (a + 1) n) (omega arith)
-    ∙ ap (λ m. later (place m (range_with_len (a + 1) n))) (let e : a + suc k ≡ a + 1 + k = omega arith in e)
-    ∙ ap later (place_in_range (a + 1) n k (omega arith))
 
 any_fraction : Fraction
 any_fraction = record { numerator = 0; denominator = 1 }

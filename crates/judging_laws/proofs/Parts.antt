@@ -58,7 +58,7 @@ divisor_above_zero offers i o within =
 
 -- ---- the place of each offer's column
 
-place_in_range : (a n k : ℕ) → k < n → place (a + k) (range_with_len a n) ≡ Some k
+pub place_in_range : (a n k : ℕ) → k < n → place (a + k) (range_with_len a n) ≡ Some k
 place_in_range a zero k h = absurd (omega arith)
 place_in_range a (suc n) zero h = ap (λ m. place m (a ∷ range_with_len (a + 1) n)) (let e : a + 0 ≡ a = omega arith in e) ∙ place_here a (range_with_len (a + 1) n)
 place_in_range a (suc n) (suc k) h =
