@@ -10,6 +10,7 @@ use mathlib.Core.List.{IsPrefix}
 use lib.ListN.{get_elem?}
 use Rattle.atomic_table.specs.Table.{State, Me, step, Act, keeps, takes, gives, carried_after, homes_after, rest, Valid, Allows, Splits, Joins, stepped, opening, Final, Seen}
 use Rattle.atomic_table.proofs.Lists.{at_set, at_snoc, set_else, set_again, one_turn}
+use Rattle.turn_lock.specs.declared.rule.TheConstants.{MOST_PASSES}
 use Rattle.turn_lock.specs.declared.rule.Stage.{Stage}
 use Rattle.turn_lock.specs.declared.rule.Stage.TheVariants.{Spent, Away, Waiting, Inside}
 use Rattle.turn_lock.specs.declared.rule.View.{View}
@@ -378,7 +379,7 @@ module _ {S E F : Type 0} (entries : S → List E) (fixed : S → F) (caller : E
       )
 
   -- the root splits off a pass
-  pub splits : (id : ℕ) (v : V) → v.stage ≡ Away → v.number ≡ 0 → v.given < 256 → Splits R id v (after_split v) (newcomer v)
+  pub splits : (id : ℕ) (v : V) → v.stage ≡ Away → v.number ≡ 0 → v.given < MOST_PASSES → Splits R id v (after_split v) (newcomer v)
   splits id v away root room s r at =
       let w : V = after_split v in
       let n' : V = newcomer v in

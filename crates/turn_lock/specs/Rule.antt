@@ -5,6 +5,7 @@ use mathlib.Core.Option as maybe
 use mathlib.Core.List.{IsPrefix}
 use lib.ListN.{get_elem?}
 use Rattle.atomic_table.specs.Table.{State}
+use Rattle.turn_lock.specs.declared.rule.TheConstants.{MOST_PASSES}
 use Rattle.turn_lock.specs.declared.rule.Stage.{Stage}
 use Rattle.turn_lock.specs.declared.rule.Stage.TheVariants.{Spent, Away, Waiting, Inside}
 use Rattle.turn_lock.specs.declared.rule.View.{View}
@@ -100,7 +101,7 @@ module _ {S E F : Type 0} (entries : S → List E) (fixed : S → F) (caller : E
     pub queue : total (λ (v : View E F). waits v.stage) s.views + serving ≡ ticket
     pub numbers : (n : ℕ) → total (bears n) s.views + times_joined n joined ≡ once_between 0 given n
     pub passes : total (λ (v : View E F). lives v.stage) s.views + length joined ≡ given
-    pub few : given ≤ 256
+    pub few : given ≤ MOST_PASSES
     pub each_pass : (j : ℕ) (v : View E F) → get_elem? s.views j ≡ some v → lives v.stage ≡ 1 → Fits log serving given joined v
     pub calls_kept : (n : ℕ) → 0 < times_joined n joined → calls_of caller n log ≡ kept_of n joined
     pub no_others : (n : ℕ) → given ≤ n → calls_of caller n log ≡ []

@@ -21,6 +21,7 @@ mod tests;
 mod turn;
 
 pub use kept::Kept;
-pub use lock::{MOST_PASSES, TurnLock};
+pub use lock::TurnLock;
 pub use pass::Pass;
+pub use rule::MOST_PASSES;
 pub use turn::Turn;

@@ -12,9 +12,6 @@ use std::snapshot::Snapshot;
 use std::sync::Wait;
 use want_of_memory::WantOfMemory;
 
-/// The most passes that a lock can have in its life, including the root.
-pub const MOST_PASSES: u16 = 256;
-
 /// The lock, which holds the state. Threads share it by reference, and each thread has a pass of its own.
 #[derive(Drop)]
 pub struct TurnLock<S: Kept> {

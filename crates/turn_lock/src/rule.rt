@@ -7,6 +7,9 @@ use std::alloc::Global;
 use std::collections::LinkedList;
 use std::snapshot::Snapshot;
 
+/// The most passes that a lock can have in its life, including the root.
+pub const MOST_PASSES: u16 = 256;
+
 /// The index of the word for the next ticket.
 pub const TICKET: usize = 0;
 /// The index of the word for the ticket that has the turn, or will have it next.
