@@ -32,7 +32,7 @@ fn found(
 }
 
 /// Files what is found of the sheet of a live pin. If no memory is left, the pin is given up.
-fn judge_pinned(
+pub fn judge_pinned(
     alloc: Global,
     board: &mut Board<FindingLaw>,
     bench: &mut Bench,

@@ -11,7 +11,7 @@ use std::alloc::Global;
 use verdict_maker::FindingLaw;
 
 /// An offer that fills a place before one is read into it.
-fn placeholder() -> Offer {
+pub fn placeholder() -> Offer {
     Offer {
         feed: 0,
         selection: Selection::Home,
