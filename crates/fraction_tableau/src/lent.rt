@@ -67,13 +67,8 @@ fn first_column(
     ensures { IsFirstColumn rows.now width heads.now target pivot place result }
 {
     for (column, head) in heads.iter().enumerate() {
-        if !fits_in(
-            rows,
-            target,
-            pivot,
-            place,
-            lent_place(width, target, pivot, *head),
-        ) {
+        let at = lent_place(width, target, pivot, *head);
+        if !fits_in(rows, target, pivot, place, at) {
             return column;
         }
     }

@@ -8,7 +8,7 @@ use Rattle.fraction_tableau.proofs.lent.first_column.Goals as goal
 pub returns-then-not-fits_in : goal.returns-then-not-fits_in
 returns-then-not-fits_in c =
     let a = c.args in
-    let is : get_or (pivot_places a.width a.target a.pivot a.heads.now) c.loop-column.column 0 ≡ c.lent_place.result = place_at (pivot_place_by a.width a.target a.pivot) a.width a.heads.now c.loop-column.column c.loop-column-test.true ∙ sym c.lent_place.ensures in
+    let is : get_or (pivot_places a.width a.target a.pivot a.heads.now) c.loop-column.column 0 ≡ c.lent_place-at.result = place_at (pivot_place_by a.width a.target a.pivot) a.width a.heads.now c.loop-column.column c.loop-column-test.true ∙ sym c.lent_place-at.ensures in
     let P : ℕ → Type 0 = λ at. FitsAt (row_of a.rows.now a.target) (row_of a.rows.now a.pivot) a.place at in
     record {
       within = omega (arith, c.loop-column-test.true);
@@ -19,9 +19,9 @@ returns-then-not-fits_in c =
 pub loop-column-preserved : goal.loop-column-preserved
 loop-column-preserved c =
     let a = c.args in
-    let is : get_or (pivot_places a.width a.target a.pivot a.heads.now) c.loop-column.column 0 ≡ c.lent_place.result = place_at (pivot_place_by a.width a.target a.pivot) a.width a.heads.now c.loop-column.column c.loop-column-test.true ∙ sym c.lent_place.ensures in
+    let is : get_or (pivot_places a.width a.target a.pivot a.heads.now) c.loop-column.column 0 ≡ c.lent_place-at.result = place_at (pivot_place_by a.width a.target a.pivot) a.width a.heads.now c.loop-column.column c.loop-column-test.true ∙ sym c.lent_place-at.ensures in
     let P : ℕ → Type 0 = λ at. FitsAt (row_of a.rows.now a.target) (row_of a.rows.now a.pivot) a.place at in
-    let fit : P c.lent_place.result = c.if-not-fits_in.ensures.0 refl in
+    let fit : P c.lent_place-at.result = c.if-not-fits_in.ensures.0 refl in
     below_more (λ k. FitsInColumn a.rows.now a.width a.heads.now a.target a.pivot a.place k) c.loop-column.column c.loop-column.invariant (subst P (sym is) fit)
 
 pub returns : goal.returns
