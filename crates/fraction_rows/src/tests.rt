@@ -22,6 +22,8 @@ fn passes_in_the_first_column_where_a_product_does(rt: HostRuntime) {
     // 3 * 2^126 is above 2^127 - 1.
     let mut target = [1, 0x4000_0000_0000_0000_0000_0000_0000_0000];
     let pivot = [3, 0x4000_0000_0000_0000_0000_0000_0000_0000];
+    assert_eq!(rt; fits_at(&target, &pivot, 0, 0), true);
+    assert_eq!(rt; fits_at(&target, &pivot, 0, 1), false);
     assert_eq!(rt; combine(&mut target, &pivot, 0), Err(Passed { column: 1 }));
     assert_eq!(rt; target, [1, 0x4000_0000_0000_0000_0000_0000_0000_0000]);
 }
