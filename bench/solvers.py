@@ -4,7 +4,7 @@
     bench/solvers.py SHEETS FOLDER
 
 Writes FOLDER/K for each K below SHEETS: the feeds `f0.feed` and so on, and `program.lp` in the LP format. Sheet K depends on K
-alone: its markets, its feeds' rules and how its odds are made take turns, and the rest is drawn. It has 2 to 64 offers.
+alone: its markets, its feeds' rules and how its odds are made take turns, and the rest is drawn. It has up to 64 offers.
 
 The program has a column for each offer and a row for each way in which the offers settle. It asks for a gain of the level at
 each final score, and for no loss at each abandonment; the level is at most 1. So its optimum is 1 if some stakes gain at each
@@ -26,7 +26,7 @@ MOST_OFFERS, MOST_OF_A_FEED, MOST_FEEDS = 64, 32, 8
 GOALS, LATER_GOALS = 12, 24
 MARKETS = [("1x2",), ("ah",), ("total",), ("1x2", "ah", "total")]
 BOOKS = [["void"], ["score"], ["decided"], RULES]
-# How odds are made: by the margin of the books and the noise on it, or exact odds of a certain chance.
+# How odds are made: by the margin of the books and the noise on it, or without any margin.
 ODDS = [(0.96, 0.02), (0.98, 0.02), (1.0, 0.005), (1.02, 0.03), "exact"]
 # Results, the two sides of a handicap of half a goal, and totals, at odds without any margin.
 EXACT_RESULTS = [
