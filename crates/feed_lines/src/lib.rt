@@ -7,7 +7,7 @@
 //! - `find`, `limits`: the first of some bytes; sizes of buffers.
 //!
 //! A reader keeps all bytes that it took: `MOST_TAKEN` bytes of memory, asked for by the first step. A step costs time in the bytes of
-//! its line and of the reads that it makes, and one look-up of its match.
+//! its line and of the reads that it makes, one look-up of its match, and a second one at the first quote of a match.
 #![tactic(auto)]
 
 mod answer;
