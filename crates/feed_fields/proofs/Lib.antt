@@ -1,3 +1,4 @@
 pub mod Causes
 pub mod FieldParts
 pub mod First
+pub mod Text

@@ -1,6 +1,6 @@
 //! A whole line, given as it stands before its line feed.
 ghost use Rattle.std.specs.Prelude.{◌≡◌, ◌≤◌, ◌<◌, not, length, IfSome, IfOk};
-ghost use Rattle.std.specs.List.{position};
+ghost use Rattle.std.specs.List.{position, list_all};
 ghost use Rattle.feed_definitions.specs.Forms.{is_text_byte, too_long, without_return, read_ascii, header_form, request_form, header_of, line_form};
 ghost use Rattle.feed_fields.specs.Tests.{ascii_test, HasLimitInRange, IfAsks};
 
@@ -50,11 +50,25 @@ fn find_other(text: &[u8]) -> Option<usize>
     text.iter().position(|byte| !is_text_byte(*byte))
 }
 
+// Whether each byte may stand in a line. The loop ends at no byte early, so that it can test many bytes at once.
+fn is_text(text: &[u8]) -> bool
+    ensures { result ≡ list_all is_text_byte text.now }
+{
+    let mut is_text = true;
+    for byte in text {
+        is_text &= is_text_byte(*byte);
+    }
+    is_text
+}
+
 // That each byte may stand in a line.
 fn check_bytes(text: &[u8]) -> Result<(), Fault>
     requires { length text.now ≤ MOST_LINE_BYTES }
     ensures { result ≡ ascii_test text.now }
 {
+    if is_text(text) {
+        return Ok(());
+    }
     match find_other(text) {
         None => Ok(()),
         Some(index) => Err(Fault {

@@ -1,5 +1,5 @@
 -- What one more accepted line does to the rows of what stands.
-use Rattle.std.proofs.Common.{◌≡◌, ℕ, zero, suc, ◌+◌, ◌<◌, ◌≤◌, Bool, true, false, not, cond, eqb, ltb, ◌&&◌, ◌||◌, List, [], ◌∷◌, ◌++◌, length, map, filter, reverse, find, get_or, set, replicate, Option, Some, None, is_some, IfSome, count_by, refl, sym, ap, ◌∙◌, subst, arith, length-append}
+use Rattle.std.proofs.Common.{◌≡◌, ℕ, zero, suc, ◌+◌, ◌<◌, ◌≤◌, Bool, true, false, not, cond, eqb, ltb, ◌&&◌, ◌||◌, List, [], ◌∷◌, ◌++◌, length, map, filter, reverse, find, get_or, set, replicate, Option, Some, None, is_some, IfSome, IfNone, count_by, refl, sym, ap, ◌∙◌, subst, arith, length-append}
 use Rattle.std.specs.List.{list_any, range_with_len}
 use Rattle.std.specs.Str.{bytes_eq}
 use Rattle.std.proofs.lemmas.Bool.{ltb-true, eqb-true, eq-eqb, false≢true}
@@ -333,3 +333,22 @@ module _ (row_of row_now : List ℕ → Option (List Bool)) (rows rows_now : ℕ
 
   pub standing_more : IsStanding row_now rows_now (lines ++ line ∷ [])
   standing_more = record { known = known_now; count = count_now; few = few_now; stand = stand_now; sizes = sizes_now }
+
+-- what a change ensures if it is made, and if it is refused
+pub at_none : {A : Type 0} {P : Type 0} (o : Option A) → o ≡ None → IfNone o P → P
+at_none None e h = h
+at_none (Some x) e h = absurd (cc)
+
+pub at_some : {A : Type 0} {P : Type 0} (o : Option A) {x : A} → o ≡ Some x → IfSome o (λ _. P) → P
+at_some None e h = absurd (cc)
+at_some (Some y) e h = h
+
+pub at_refusal : {A : Type 0} {P Q : Type 0} (o : Option A) → (P → Q) → IfSome o (λ _. P) → IfSome o (λ _. Q)
+at_refusal None f h = h
+at_refusal (Some x) f h = f h
+
+-- a row in which one selection stands
+pub count_one : (n i : ℕ) → i < n → count_by (λ t. t) (set (replicate n false) i true) ≡ 1
+count_one zero i h = absurd (omega (arith, h))
+count_one (suc n) zero h = sum_by-cons (λ (b : Bool). cond b 1 0) true (replicate n false) ∙ ap (λ m. 1 + m) (none_in n)
+count_one (suc n) (suc i) h = sum_by-cons (λ (b : Bool). cond b 1 0) false (set (replicate n false) i true) ∙ ap (λ m. 0 + m) (count_one n i (omega (arith, h)))

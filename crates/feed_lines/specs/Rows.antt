@@ -32,6 +32,10 @@ quote_refused_by None rows number = if nat_lt rows MOST_MATCHES then None else S
 quote_refused_by (Some row) rows number =
     if get_or row number false || nat_lt (count_by (λ stands. stands) row) MOST_STANDING then None else Some TooManyOffers
 
+-- why a withdrawal is refused, if it is, by the row of its match
+abbrev pub withdrawal_refused_by : Option (List Bool) → ℕ → Option Cause
+withdrawal_refused_by row number = if stands_in row number then None else Some NotQuoted
+
 abbrev pub refused_by : Option (List Bool) → ℕ → ℕ → Change → Option Cause
 refused_by row rows number (Quote odds limit) = quote_refused_by row rows number
-refused_by row rows number Withdraw = if stands_in row number then None else Some NotQuoted
+refused_by row rows number Withdraw = withdrawal_refused_by row number

@@ -5,7 +5,6 @@ ghost use Rattle.indexmap.specs.IndexMap.{get as row_at, index_map_len, spare};
 ghost use Rattle.feed_definitions.specs.declared.accepted.Accepted.{Accepted as AcceptedLine};
 ghost use Rattle.feed_definitions.specs.declared.request.LineForm.TheVariants.{Asks};
 ghost use Rattle.feed_definitions.specs.Forms.{header_of};
-ghost use Rattle.feed_definitions.specs.Standing.{is_quote};
 ghost use Rattle.feed_definitions.specs.Feed.{refusal, form_step, line_answer, accepted_in};
 ghost use Rattle.feed_definitions.specs.Answers.{header_step};
 ghost use Rattle.feed_fields.specs.Tests.{HasLimitInRange};
@@ -13,7 +12,7 @@ ghost use Rattle.feed_lines.specs.Rows.{IsStanding};
 ghost use Rattle.feed_lines.specs.Reader.{IsInRange};
 
 use crate::standing::Standing;
-use feed_definitions::{Accepted, Change, Fault, LineForm, Refusal, Request, Step};
+use feed_definitions::{Accepted, Fault, LineForm, Refusal, Request, Step};
 use feed_fields::{read_header, read_line};
 use scan_types::Place;
 
@@ -41,13 +40,6 @@ pub fn first_step(line: &[u8]) -> Step
     }
 }
 
-/// Whether the change is a quote.
-fn quotes(change: Change) -> bool
-    ensures { result ≡ is_quote change }
-{
-    matches!(change, Change::Quote(_, _))
-}
-
 /// The step of a well-formed line of this number, which changes what stands if it is accepted.
 fn request_step(request: Request, number: u32, standing: &mut Standing) -> Step
     requires room { 0 < spare standing.old.rows }
@@ -59,7 +51,7 @@ fn request_step(request: Request, number: u32, standing: &mut Standing) -> Step
         IsStanding (row_at bytes_eq standing.new.rows) (index_map_len standing.new.rows) (before ++ accepted_in (result ∷ [])) }
 {
     let selection = request.selection.number();
-    match standing.refused_for(&request.match_name, selection, request.change) {
+    match standing.change(&request.match_name, selection, request.change) {
         Some(cause) => Step::Refused(refusal(
             number,
             Fault {
@@ -67,16 +59,12 @@ fn request_step(request: Request, number: u32, standing: &mut Standing) -> Step
                 cause,
             },
         )),
-        None => {
-            let stands = quotes(request.change);
-            standing.put(request.match_name, selection, stands);
-            Step::Line(Accepted {
-                line: number,
-                match_name: request.match_name,
-                selection: request.selection,
-                change: request.change,
-            })
-        }
+        None => Step::Line(Accepted {
+            line: number,
+            match_name: request.match_name,
+            selection: request.selection,
+            change: request.change,
+        }),
     }
 }
 

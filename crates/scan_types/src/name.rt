@@ -83,15 +83,16 @@ impl Name {
 }
 
 impl Hash for Name {
-    ghost use Rattle.std.specs.Hash as fed;
+    ghost use Rattle.std.specs.Prelude.{[], ◌∷◌};
     ghost use Rattle.std.proofs.Common.{rules};
 
-    ghost hash_input = { fed.slice fed.u8 };
+    // All the bytes in one write: a name is the whole of a key, so that none has to be told from a longer one.
+    ghost hash_input = { λ name. name ∷ [] };
 
     ghost respects_eq = { Prim.search rules };
 
     fn hash<H: Hasher>(&self, state: &mut H) {
-        self.as_bytes().hash(state);
+        state.write(self.as_bytes());
     }
 }
 
