@@ -1,5 +1,6 @@
 ghost use Rattle.std.specs.Prelude.{◌≡◌, ℕ, ◌+◌, ◌<◌, [], ◌∷◌, ◌++◌, length, IfOk};
 ghost use mathlib.Core.List.{IsPrefix};
+ghost use Rattle.turn_lock.specs.declared.rule.TheConstants.{MOST_PASSES};
 
 use crate::kept::Kept;
 use crate::pass::Pass;
