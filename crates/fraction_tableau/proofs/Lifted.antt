@@ -57,9 +57,9 @@ pub passes_lifted : (t : CondensedTableau) (row column at_row at_column : ℕ) �
 passes_lifted t row column at_row at_column is first =
     let rows = pivot_rows t row column is.sound is.row_within is.column_within is.not_basic at_row first.within first.another in
     let both : (k : ℕ) → k < length t.heads + 1 → FitsAt (whole (places t.columns at_row t.heads) (condensed_row t at_row)) (whole (places t.columns row t.heads) (condensed_row t row)) column k ↔ FitsAt (condensed_row t at_row) (lent_row t row) (place_of t column) (get_or (pivot_places t.columns at_row row t.heads) k 0) =
-        λ k within. pivot_fits_at t.columns at_row row (get_or t.basis row 0) column (place_of t column) t.heads (condensed_row t at_row) (condensed_row t row) rows k within in
+    λ k within. pivot_fits_at t.columns at_row row (get_or t.basis row 0) column (place_of t column) t.heads (condensed_row t at_row) (condensed_row t row) rows k within in
     let wide : length (row_at (expanded t) at_row) ≡ length t.heads + 1 =
-        ap length (whole_row t.columns t.heads t.rows at_row first.within) ∙ length-map (places t.columns at_row t.heads) (entry (condensed_row t at_row)) ∙ place_count (place_by t.columns at_row) t.columns t.heads in
+    ap length (whole_row t.columns t.heads t.rows at_row first.within) ∙ length-map (places t.columns at_row t.heads) (entry (condensed_row t at_row)) ∙ place_count (place_by t.columns at_row) t.columns t.heads in
     let below = first.at_within in
     record {
       within = subst (λ n. at_row < n) (sym (length-wholes t.columns t.heads 0 t.rows)) first.within;

@@ -137,7 +137,10 @@ impl Tableau {
         ensures within { IfSome result (λ row. row < length self.now.basis) }
         ensures few { length self.now.basis ≤ 2048 }
     {
-        self.condensed.basis().iter().position(|basic| *basic == column)
+        self.condensed
+            .basis()
+            .iter()
+            .position(|basic| *basic == column)
     }
 
     /// Whether a column is basic in some row.

@@ -106,9 +106,9 @@ stands = record { sound = λ some. sound; kept = kept_or_empty (expanded condens
 pub invariant_of-result-2 : goal.invariant_of-result-2
 invariant_of-result-2 c =
     let rows_are : c.put-2.new.self ≡ condensed.rows =
-        c.put-2.ensures ∙ ap (λ (rs : List (List ℤ)). set rs 1 (set (get_or rs 1 []) 1 (pos 0x40000000000000000000000000000000)))
-        (c.put.ensures ∙ ap (λ (rs : List (List ℤ)). set rs 1 (set (get_or rs 1 []) 0 (pos 1)))
-        (c.fill.ensures ∙ ap (λ (rs : List (List ℤ)). set rs 0 (pos 3 ∷ pos 0 ∷ pos 1 ∷ pos 0 ∷ [])) c.in_ok-remake.ensures.ok)) in
+    c.put-2.ensures ∙ ap (λ (rs : List (List ℤ)). set rs 1 (set (get_or rs 1 []) 1 (pos 0x40000000000000000000000000000000)))
+    (c.put.ensures ∙ ap (λ (rs : List (List ℤ)). set rs 1 (set (get_or rs 1 []) 0 (pos 1)))
+    (c.fill.ensures ∙ ap (λ (rs : List (List ℤ)). set rs 0 (pos 3 ∷ pos 0 ∷ pos 1 ∷ pos 0 ∷ [])) c.in_ok-remake.ensures.ok)) in
     let basis_is : c.push.new.self.items ≡ 1 ∷ [] = c.in_ok-push.ensures.items ∙ ap (λ (xs : List ℕ). xs ++ 1 ∷ []) c.new-basis.ensures.items in
     let heads_are : c.push-3.new.self.items ≡ 0 ∷ 1 ∷ [] = c.in_ok-push-3.ensures.items ∙ ap (λ (xs : List ℕ). xs ++ 1 ∷ []) (c.in_ok-push-2.ensures.items ∙ ap (λ (xs : List ℕ). xs ++ 0 ∷ []) c.new-heads.ensures.items) in
     subst StandsForKept (sym (ap₂ (λ (rows : List (List ℤ)) (basis : List ℕ). record { columns = 1; rows = rows; basis = basis; heads = c.push-3.new.self.items }) rows_are basis_is ∙ ap (λ (heads : List ℕ). record { columns = 1; rows = condensed.rows; basis = 1 ∷ []; heads = heads }) heads_are)) stands
