@@ -54,11 +54,9 @@ pub fn once<O: Opener, K: Sink>(
 
     ensures none_begun { (k : ℕ) → k < length names.now → LacksSource (O.told opener.old) (map string_bytes names.now) k → result.feeds.items ≡ [] }
 
-    // Status 4 comes only if a read of a feed failed; where bodies were read, it is due if one of them stopped so.
+    // Status 4 comes only if a read of a feed failed, and is due if a feed that was begun stopped so.
     ensures not_read { result.status ≡ NOT_READ → HasFailedRead O.S.faults result.feeds.items }
-    ensures not_read_due { HaveRun (length names.now) result.feeds.items → SomeStop stops.ReadFault result.feeds.items →
-        IsOrYields NOT_READ result.status }
-    // The source of a feed has counted no failed read, unless the feed stopped so.
+    ensures not_read_due { SomeStop stops.ReadFault result.feeds.items → IsOrYields NOT_READ result.status }
     ensures source_faults { All (λ end. end.stop ≢ stops.ReadFault → O.S.faults end.source ≡ 0) result.feeds.items }
     ensures read_as_promised { O.promises opener.old → result.status ≢ NOT_READ }
 

@@ -47,13 +47,11 @@ returns-clause-not_read g c =
     causes.not_read
 
 pub returns-clause-not_read_due : goal.returns-clause-not_read_due
-returns-clause-not_read_due g c = λ ran.
+returns-clause-not_read_due g c =
     let names = map (string_bytes {Z = Global}) c.args.names.now in
-    let each = length-map c.args.names.now (string_bytes {Z = Global}) in
     let out : Outcome g.row.O-S.Denot = record { ends = c.run.result.feeds.items; history = c.run.result.history.items } in
     let causes = c.statuses_have_causes.ensures names c.args.pivots c.run.result.status c.args.opener.now c.run.new.opener c.args.sink.now c.run.new.sink out c.run.ensures.course in
-    let P : ℕ → Type 0 = λ n. HaveRun n c.run.result.feeds.items in
-    causes.not_read_due (subst P (sym each) ran)
+    causes.not_read_due
 
 pub returns-clause-bad_header : goal.returns-clause-bad_header
 returns-clause-bad_header g c = λ six.
