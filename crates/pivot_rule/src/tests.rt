@@ -92,26 +92,22 @@ fn three_way(alloc: Global) -> Result<Tableau, Fail>
     Ok(Tableau::build(alloc, &program)?)
 }
 
-#[test]
-fn ends_at_a_level_of_zero(rt: HostRuntime) -> Result<(), Fail> {
-    let mut tableau = three_way(rt.alloc())?;
-    assert_eq!(rt; run(&mut tableau, 4096), RunEnd::Best(3));
-    assert!(rt; has_basis(&tableau, &[0, 2, 3, 7, 8]));
-    assert!(rt; has_multipliers(&tableau, &[1, 1, 1, 0, 0]));
-    assert_eq!(rt; tableau.value(0), (0, 3));
-    Ok(())
+// A tableau in which a program of fewer columns and rows was run to its end.
+fn used(alloc: Global) -> Result<Tableau, Fail> {
+    let smaller = capped(alloc, 2, 3, &[3, -1, 0, 1, 1, 0], &[0, 2, 1])?;
+    let mut tableau = Tableau::empty(alloc);
+    if ran(&mut tableau, &smaller, 10)? != RunEnd::Best(2) {
+        return Err(Fail::from("the smaller program has another end"));
+    }
+    Ok(tableau)
 }
 
-// A smaller program after a larger one, and the larger one again.
 #[test]
-fn runs_in_a_used_tableau_as_in_a_new_one(rt: HostRuntime) -> Result<(), Fail> {
-    let larger = three_way_program(rt.alloc())?;
-    let smaller = capped(rt.alloc(), 2, 3, &[3, -1, 0, 1, 1, 0], &[0, 2, 1])?;
-    let mut tableau = Tableau::empty(rt.alloc());
-    assert_eq!(rt; ran(&mut tableau, &larger, 2)?, RunEnd::OutOfPivots(2));
-    assert_eq!(rt; ran(&mut tableau, &smaller, 10)?, RunEnd::Best(2));
-    assert_eq!(rt; tableau.value(0), (2, 3));
-    assert_eq!(rt; ran(&mut tableau, &larger, 4096)?, RunEnd::Best(3));
+fn ends_at_a_level_of_zero_in_a_used_tableau_too(rt: HostRuntime) -> Result<(), Fail> {
+    let program = three_way_program(rt.alloc())?;
+    let mut tableau = used(rt.alloc())?;
+    assert_eq!(rt; ran(&mut tableau, &program, 2)?, RunEnd::OutOfPivots(2));
+    assert_eq!(rt; ran(&mut tableau, &program, 4096)?, RunEnd::Best(3));
     assert!(rt; has_basis(&tableau, &[0, 2, 3, 7, 8]));
     assert!(rt; has_multipliers(&tableau, &[1, 1, 1, 0, 0]));
     assert_eq!(rt; tableau.value(0), (0, 3));
