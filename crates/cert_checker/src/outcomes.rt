@@ -11,7 +11,7 @@ use settle_classes::{STAND_INS, stand_in};
 use void_rules::paid;
 
 /// The first stand-in in class order at which whole stakes win less than is needed, with what they win
-/// there. Settles each offer once at each stand-in.
+/// there. Settles each offer with a stake once at each stand-in.
 pub(crate) fn loss_of_stakes(offers: &[Offer], stakes: &[u32]) -> Option<(Outcome, i128)>
     requires few { length offers.now ≤ MOST_OFFERS }
     requires count { length stakes.now ≡ length offers.now }
@@ -58,13 +58,16 @@ fn total_net(offers: &[Offer], stakes: &[u32], outcome: Outcome) -> i128
     won
 }
 
-/// What comes back of a stake, less the stake.
+/// What comes back of a stake, less the stake. Settles nothing for a stake of 0.
 fn net(offer: &Offer, stake: u32, outcome: Outcome) -> i128
     requires { HasScoresInRange outcome }
     ensures exact { result ≡ net offer.now stake outcome }
     ensures at_least { neg_ℤ (pos (2 ^ 42)) ≤ℤ result }
     ensures at_most { result ≤ℤ pos (2 ^ 42) }
 {
+    if stake == 0 {
+        return 0;
+    }
     i128::from(paid(offer, stake, outcome)) - i128::from(stake)
 }
 

@@ -8,7 +8,7 @@ use scan_types::{Offer, Outcome};
 use void_rules::gain;
 
 /// A weight or a part times the gain of an offer at an outcome. As a gain is at most 1,998,000, it stays
-/// within 2^81.
+/// within 2^81. Settles nothing for a weight of 0.
 pub(crate) fn weighed_gain(weight: u64, offer: &Offer, outcome: Outcome) -> i128
     requires weight { weight ≤ MOST_PART }
     requires scores { HasScoresInRange outcome }
@@ -16,6 +16,9 @@ pub(crate) fn weighed_gain(weight: u64, offer: &Offer, outcome: Outcome) -> i128
     ensures at_least { neg_ℤ (pos (2 ^ 81)) ≤ℤ result }
     ensures at_most { result ≤ℤ pos (2 ^ 81) }
 {
+    if weight == 0 {
+        return 0;
+    }
     product(weight, gain(offer, outcome))
 }
 

@@ -81,6 +81,9 @@ pub fn gain(offer: &Offer, outcome: Outcome) -> i64
         offer.odds,
         leg_at(offer.rule, offer.selection, low, outcome),
     );
+    if low == high {
+        return 2 * first;
+    }
     let second = leg_gain(
         offer.odds,
         leg_at(offer.rule, offer.selection, high, outcome),
