@@ -22,7 +22,8 @@ fn has_bet(bets: &[Offer], offer: &Offer) -> bool
 
 /// The first offer of each selection and rule, in the order of the offers.
 ///
-/// Takes memory for as many offers at once, and compares each offer with at most all that are kept.
+/// Takes memory once, for as many offers as are handed in. Compares each offer with at most all that
+/// were kept before it.
 pub fn bets(alloc: Global, offers: &[Offer]) -> Result<Vec<Offer>, WantOfMemory>
     ensures { IfOk result (λ bets. bets.items ≡ distinct_by same_bet offers.now) }
 {
