@@ -10,6 +10,7 @@
 //! `settlement_laws` shows that what holds at each of them holds at every outcome.
 #![tactic(auto)]
 
+mod bets;
 mod class_list;
 mod row;
 mod stand_ins;

@@ -20,7 +20,7 @@ use Rattle.settlement_definitions.specs.Gain.{gain, leg_gain}
 use Rattle.settlement_definitions.proofs.DecidedLemmas.{decided_result-by_goals}
 
 -- the two results are not opposite
-abbrev AreNear : LegResult → LegResult → Type 0
+abbrev pub AreNear : LegResult → LegResult → Type 0
 AreNear Win Win = Unit {0}
 AreNear Win Push = Unit {0}
 AreNear Win Lose = ⊥
@@ -143,7 +143,8 @@ near_abandoned Decided s h a =
     near_along _ _ (by_goals s (legs_of s).0 h a) (by_goals s (legs_of s).1 h a)
     (decided_result-by_goals s (legs_of s).0 h a) (decided_result-by_goals s (legs_of s).1 h a) (near_goals s h a)
 
-near_at : (rule : VoidRule) (s : Selection) (x : Outcome) → AreNear (leg_at rule s (legs_of s).0 x) (leg_at rule s (legs_of s).1 x)
+-- the legs of a bet, at any outcome
+pub near_at : (rule : VoidRule) (s : Selection) (x : Outcome) → AreNear (leg_at rule s (legs_of s).0 x) (leg_at rule s (legs_of s).1 x)
 near_at rule s (Full h a) = near_final s h a
 near_at rule s (Abandoned h a) = near_abandoned rule s h a
 

@@ -5,5 +5,6 @@ pub mod Distinct
 pub mod Alike
 pub mod AlikeSums
 pub mod FiveGains
+pub mod SameBets
 pub mod CanLose
 pub mod Roundings

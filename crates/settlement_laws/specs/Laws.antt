@@ -87,6 +87,11 @@ FiveGains =
     (offer : Offer) (x : Outcome) → let profit = pos offer.odds.thousandths -ℤ pos 1000 in
     (gain offer x ≡ negsuc 1999) ⊎ ((gain offer x ≡ negsuc 999) ⊎ ((gain offer x ≡ pos 0) ⊎ ((gain offer x ≡ profit) ⊎ (gain offer x ≡ profit +ℤ profit))))
 
+-- offers of one selection and rule gain alike at the same outcomes, whatever their odds
+abbrev pub SameBetsGainAlike : Type 0
+SameBetsGainAlike =
+    (one other : Offer) (x y : Outcome) → one.selection ≡ other.selection → one.rule ≡ other.rule → gain one x ≡ gain one y → gain other x ≡ gain other y
+
 -- every bet loses its whole stake at some final score
 abbrev pub EachBetCanLose : Type 0
 EachBetCanLose = (offer : Offer) → (home : ℕ) × (away : ℕ) × (gain offer (Full home away) ≡ negsuc 1999)

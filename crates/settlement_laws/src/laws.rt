@@ -1,6 +1,6 @@
 ghost use Rattle.settlement_laws.specs.Laws.{FinalTestIsExact, AlikeTestIsExact};
 ghost use Rattle.settlement_laws.specs.Laws.{StandInSettlesAlike, EachHasStandIn, NetAtEachOutcome, GainAtEachOutcome, EachHasClass};
-ghost use Rattle.settlement_laws.specs.Laws.{NinetyEightStandIns, FiveGains, EachBetCanLose, SlackCoversRounding};
+ghost use Rattle.settlement_laws.specs.Laws.{NinetyEightStandIns, FiveGains, SameBetsGainAlike, EachBetCanLose, SlackCoversRounding};
 ghost use Rattle.settlement_laws.specs.Laws.{EqualNeeds, EqualNets, EqualGains, EqualSlacks, NetFromClasses, GainFromClasses, SlackFromClasses};
 
 /// The test `is_final` is true exactly of the final scores. The test `settle_alike` is true exactly if
@@ -53,6 +53,11 @@ pub fn there_are_98_stand_ins()
 /// A bet is lost, half lost, given back, half won or won: the two legs of a bet never go opposite ways.
 pub fn a_bet_gains_one_of_five_amounts()
     ensures { FiveGains }
+{}
+
+/// Offers of one selection and rule gain alike at the same outcomes, whatever their odds.
+pub fn same_bets_gain_alike()
+    ensures { SameBetsGainAlike }
 {}
 
 /// Every bet loses its whole stake at some final score.

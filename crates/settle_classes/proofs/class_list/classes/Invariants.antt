@@ -6,4 +6,4 @@ use Rattle.settle_classes.proofs.class_list.classes.Given as goal
 
 abbrev pub invariant-loop-k : goal.invariant-loop-k
 invariant-loop-k l =
-    (l.outcomes.items ≡ distinct_by (settle_alike l.offers) (take l.k stand_ins)) × (map parts_of l.rows.items ≡ map (settlement_of l.offers) l.outcomes.items)
+    (l.outcomes.items ≡ distinct_by (settle_alike l.bets.items) (take l.k stand_ins)) × (map parts_of l.rows.items ≡ map (settlement_of l.bets.items) l.outcomes.items)
