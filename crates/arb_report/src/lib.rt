@@ -1,4 +1,4 @@
-//! Writing the report of any feeds: `write_report` writes it line by line, each line from a text of fixed room. It takes no memory.
+//! Writing the report of any feeds: `write_report` gathers its lines in a text of fixed room, which goes to the sink each time it is full. It takes no memory.
 //!
 //! - `writing`: the report, its feeds and its matches. `lines`: each line of them. `words`: the words that stand in a line.
 //!

@@ -1,5 +1,5 @@
--- Texts that are written one after another are one text that is written.
-use Rattle.std.proofs.Common.{ℕ, ◌≡◌, ◌+◌, ◌<◌, ◌≤◌, List, [], ◌∷◌, ◌++◌, length, get_or, take, drop, refl, sym, ap, subst, ◌∙◌, arith, add-one}
+-- Texts that are gathered one after another are one text that is gathered, and then written.
+use Rattle.std.proofs.Common.{ℕ, ◌≡◌, ◌+◌, ◌<◌, ◌≤◌, List, [], ◌∷◌, ◌++◌, length, get_or, take, drop, refl, sym, ap, subst, ◌∙◌, append_assoc, arith, add-one}
 use Rattle.std.specs.Prelude.{Option, Result, Ok, Err, IsErr, decimal}
 use Rattle.std.specs.List.{flat_map, join_with_byte}
 use Rattle.std.specs.Io.KnownBytes.{Appends}
@@ -8,7 +8,7 @@ use Rattle.std.proofs.lemmas.List.{take-append-le, length-append, append-nil, ta
 use Rattle.std.proofs.lemmas.Grind.{flat_map-append}
 use Rattle.std.proofs.Math.Seq.{take-append-add, take-suc}
 use Rattle.desk_io.specs.Sink.{AppendsPrefix}
-use Rattle.certificates.specs.Written.{Wrote, spaced}
+use Rattle.certificates.specs.Written.{Wrote, Gathered, spaced}
 
 -- a front of the first of two texts is a front of both
 prefix_first : (a b : Option (List ℕ)) (x y : List ℕ) → AppendsPrefix a b x → AppendsPrefix a b (x ++ y)
@@ -21,24 +21,50 @@ prefix_second : (a b c : Option (List ℕ)) (x y : List ℕ) → Appends a b x �
 prefix_second a b c x y first (count, less, appended) =
     (length x + count, omega (arith, length-append x y), subst (Appends a c) (sym (take-append-add x y count)) (Appends-trans a b c x (take count y) first appended))
 
-pub same_text : {E : Type 0} {a b : Option (List ℕ)} {f g : ℕ} {x : List ℕ} {r : Result Unit E} → Wrote a b f g x r → (y : List ℕ) → x ≡ y → Wrote a b f g y r
-same_text {E = E} {a = a} {b = b} {f = f} {g = g} {r = r} w y e = subst (λ (t : List ℕ). Wrote a b f g t r) e w
+pub same_text : {E : Type 0} {a b : Option (List ℕ)} {f g : ℕ} {h k x : List ℕ} {r : Result Unit E} → Gathered a b f g h k x r → (y : List ℕ) → x ≡ y → Gathered a b f g h k y r
+same_text {E = E} {a = a} {b = b} {f = f} {g = g} {h = h} {k = k} {r = r} w y e = subst (λ (t : List ℕ). Gathered a b f g h k t r) e w
+
+-- the fronts of two texts, and what is held behind them
+fronts : (p q h k l x y : List ℕ) → p ++ k ≡ h ++ x → q ++ l ≡ k ++ y → (p ++ q) ++ l ≡ h ++ (x ++ y)
+fronts p q h k l x y first second =
+    append_assoc p q l ∙ ap (λ (r : List ℕ). p ++ r) second ∙ sym (append_assoc p k y) ∙ ap (λ (r : List ℕ). r ++ y) first ∙ append_assoc h x y
 
 -- a text, and then another, in whole or cut short
-pub and_then : {E : Type 0} {a b c : Option (List ℕ)} {f g h : ℕ} {x y : List ℕ} {u : Unit {0}} {r : Result Unit E} → Wrote {E = E} a b f g x (Ok u) → Wrote b c g h y r → Wrote a c f h (x ++ y) r
-and_then {a = a} {b = b} {c = c} {x = x} {y = y} {r = Ok v} p q =
-    record { written = Appends-trans a b c x y p.written q.written; cut_short = tt; failed = tt; no_fault = q.no_fault ∙ p.no_fault; faults_kept = omega (arith, p.faults_kept, q.faults_kept) }
-and_then {a = a} {b = b} {c = c} {x = x} {y = y} {r = Err e} p q =
-    record { written = tt; cut_short = prefix_second a b c x y p.written q.cut_short; failed = omega (arith, p.faults_kept, q.failed); no_fault = tt; faults_kept = omega (arith, p.faults_kept, q.faults_kept) }
+pub and_then : {E : Type 0} {a b c : Option (List ℕ)} {f g h : ℕ} {k l m x y : List ℕ} {u : Unit {0}} {r : Result Unit E} → Gathered {E = E} a b f g k l x (Ok u) → Gathered b c g h l m y r → Gathered a c f h k m (x ++ y) r
+and_then {a = a} {b = b} {c = c} {k = k} {l = l} {m = m} {x = x} {y = y} {r = Ok v} p q =
+    let (first, first_is, first_written) = p.gathered in
+    let (second, second_is, second_written) = q.gathered in
+    record { gathered = (first ++ second, fronts first second k l m x y first_is second_is, Appends-trans a b c first second first_written second_written); cut_short = tt; failed = tt; no_fault = q.no_fault ∙ p.no_fault; faults_kept = omega (arith, p.faults_kept, q.faults_kept) }
+and_then {a = a} {b = b} {c = c} {k = k} {l = l} {x = x} {y = y} {r = Err e} p q =
+    let (first, first_is, first_written) = p.gathered in
+    let whole : first ++ (l ++ y) ≡ k ++ (x ++ y) = sym (append_assoc first l y) ∙ ap (λ (r : List ℕ). r ++ y) first_is ∙ append_assoc k x y in
+    record { gathered = tt; cut_short = subst (AppendsPrefix a c) whole (prefix_second a b c first (l ++ y) first_written q.cut_short); failed = omega (arith, p.faults_kept, q.failed); no_fault = tt; faults_kept = omega (arith, p.faults_kept, q.faults_kept) }
 
 -- a text that was cut short, and another behind it
-pub cut : {E : Type 0} {a b : Option (List ℕ)} {f g : ℕ} {x : List ℕ} {e : E} → Wrote {E = E} a b f g x (Err e) → (y : List ℕ) (r : Result Unit E) → IsErr r → Wrote a b f g (x ++ y) r
+pub cut : {E : Type 0} {a b : Option (List ℕ)} {f g : ℕ} {k l x : List ℕ} {e : E} → Gathered {E = E} a b f g k l x (Err e) → (y : List ℕ) (r : Result Unit E) → IsErr r → Gathered a b f g k l (x ++ y) r
 cut p y (Ok u) h = absurd cc
-cut {a = a} {b = b} {x = x} p y (Err d) h =
-    record { written = tt; cut_short = prefix_first a b x y p.cut_short; failed = p.failed; no_fault = tt; faults_kept = p.faults_kept }
+cut {a = a} {b = b} {k = k} {x = x} p y (Err d) h =
+    record { gathered = tt; cut_short = subst (AppendsPrefix a b) (append_assoc k x y) (prefix_first a b (k ++ x) y p.cut_short); failed = p.failed; no_fault = tt; faults_kept = p.faults_kept }
 
-pub nothing : {E : Type 0} (a : Option (List ℕ)) (f : ℕ) (u : Unit {0}) → Wrote {E = E} a a f f [] (Ok u)
-nothing a f u = record { written = Appends-nil a; cut_short = tt; failed = tt; no_fault = refl; faults_kept = omega arith }
+pub nothing : {E : Type 0} (a : Option (List ℕ)) (f : ℕ) (k : List ℕ) (u : Unit {0}) → Gathered {E = E} a a f f k k [] (Ok u)
+nothing a f k u = record { gathered = ([], sym (append-nil k), Appends-nil a); cut_short = tt; failed = tt; no_fault = refl; faults_kept = omega arith }
+
+pub from_nothing : {E : Type 0} {a b : Option (List ℕ)} {f g : ℕ} {h k x : List ℕ} {r : Result Unit E} → Gathered a b f g h k x r → h ≡ [] → Gathered a b f g [] k x r
+from_nothing {E = E} {a = a} {b = b} {f = f} {g = g} {k = k} {x = x} {r = r} w e = subst (λ (t : List ℕ). Gathered a b f g t k x r) e w
+
+-- a text that was gathered from nothing on, and then what is held
+pub and_the_rest : {E : Type 0} {a b c : Option (List ℕ)} {f g h : ℕ} {l x : List ℕ} {u : Unit {0}} {r : Result Unit E} → Gathered {E = E} a b f g [] l x (Ok u) → Wrote b c g h l r → Wrote a c f h x r
+and_the_rest {a = a} {b = b} {c = c} {l = l} {r = Ok v} p q =
+    let (front, is_all, appended) = p.gathered in
+    record { written = subst (Appends a c) is_all (Appends-trans a b c front l appended q.written); cut_short = tt; failed = tt; no_fault = q.no_fault ∙ p.no_fault; faults_kept = omega (arith, p.faults_kept, q.faults_kept) }
+and_the_rest {a = a} {b = b} {c = c} {l = l} {r = Err e} p q =
+    let (front, is_all, appended) = p.gathered in
+    record { written = tt; cut_short = subst (AppendsPrefix a c) is_all (prefix_second a b c front l appended q.cut_short); failed = omega (arith, p.faults_kept, q.failed); no_fault = tt; faults_kept = omega (arith, p.faults_kept, q.faults_kept) }
+
+-- a text that was gathered from nothing on was cut short
+pub gathered_short : {E : Type 0} {a b : Option (List ℕ)} {f g : ℕ} {l x : List ℕ} {e : E} → Gathered {E = E} a b f g [] l x (Err e) → (r : Result Unit E) → IsErr r → Wrote a b f g x r
+gathered_short p (Ok u) h = absurd cc
+gathered_short p (Err d) h = record { written = tt; cut_short = p.cut_short; failed = p.failed; no_fault = tt; faults_kept = p.faults_kept }
 
 -- the fields after the first each follow a space
 pub join_spaced : (word : List ℕ) (fields : List (List ℕ)) → join_with_byte 32 (word ∷ fields) ≡ word ++ spaced fields

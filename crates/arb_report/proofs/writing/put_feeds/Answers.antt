@@ -8,7 +8,7 @@ use Rattle.arb_report.proofs.Shapes.{one_more, all_three}
 use Rattle.arb_report.proofs.writing.put_feeds.Goals as goal
 
 pub loop-number-init : goal.loop-number-init
-loop-number-init g c = nothing _ _ tt
+loop-number-init g c = nothing _ _ _ tt
 
 -- a feed with its number is the element of this number
 numbered : (feeds : List FeedPart) (i : ℕ) (feed : FeedPart) → i < length feeds → feed ≡ get_or feeds i feed → (i, feed) ≡ get_or (enumerate_from 0 feeds) i (i, feed)

@@ -7,7 +7,7 @@ use Rattle.arb_report.proofs.Shapes.{one_more, all_three}
 use Rattle.arb_report.proofs.writing.put_matches.Goals as goal
 
 pub loop-part-init : goal.loop-part-init
-loop-part-init g c = nothing _ _ tt
+loop-part-init g c = nothing _ _ _ tt
 
 pub returns-in_err-put_match : goal.returns-in_err-put_match
 returns-in_err-put_match g c =

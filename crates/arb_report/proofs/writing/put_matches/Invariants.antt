@@ -3,11 +3,11 @@ use Rattle.std.specs.Prelude.{Ok}
 use Rattle.std.specs.List.{flat_map}
 use Rattle.desk_io.specs.declared.faults.WriteFailed.{WriteFailed}
 use Rattle.report_definitions.specs.Report.{match_lines}
-use Rattle.certificates.specs.Written.{Wrote}
+use Rattle.certificates.specs.Written.{Gathered}
 use Rattle.arb_report.proofs.writing.put_matches.Given as goal
 
--- the lines so far were written
+-- the lines so far were gathered
 abbrev pub invariant-loop-part : goal.invariant-loop-part
 invariant-loop-part g l =
     let K = g.K.Sink in
-    Wrote {E = WriteFailed} (K.written l.fn.sink) (K.written l.sink) (K.faults l.fn.sink) (K.faults l.sink) (flat_map match_lines (take l.part-index l.matches)) (Ok tt)
+    Gathered {E = WriteFailed} (K.written l.fn.sink) (K.written l.sink) (K.faults l.fn.sink) (K.faults l.sink) l.fn.held l.held (flat_map match_lines (take l.part-index l.matches)) (Ok tt)

@@ -7,7 +7,7 @@ use Rattle.arb_report.proofs.Shapes.{one_more, all_three}
 use Rattle.arb_report.proofs.writing.put_offers.Goals as goal
 
 pub loop-offer-init : goal.loop-offer-init
-loop-offer-init g c = nothing _ _ tt
+loop-offer-init g c = nothing _ _ _ tt
 
 pub returns-in_err-put_offer : goal.returns-in_err-put_offer
 returns-in_err-put_offer g c =

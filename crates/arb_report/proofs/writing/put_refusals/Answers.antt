@@ -6,7 +6,7 @@ use Rattle.certificates.proofs.Writes.{and_then, cut, same_text, nothing, flat_m
 use Rattle.arb_report.proofs.writing.put_refusals.Goals as goal
 
 pub loop-refusal-init : goal.loop-refusal-init
-loop-refusal-init g c = nothing _ _ tt
+loop-refusal-init g c = nothing _ _ _ tt
 
 pub returns-in_err-put_refusal : goal.returns-in_err-put_refusal
 returns-in_err-put_refusal g c =

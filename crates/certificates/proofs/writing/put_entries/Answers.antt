@@ -7,7 +7,7 @@ use Rattle.certificates.proofs.Writes.{and_then, cut, same_text, nothing, flat_m
 use Rattle.certificates.proofs.writing.put_entries.Goals as goal
 
 pub loop-entry-init : goal.loop-entry-init
-loop-entry-init g c = nothing _ _ tt
+loop-entry-init g c = nothing _ _ _ tt
 
 pub returns-in_err-put_entry : goal.returns-in_err-put_entry
 returns-in_err-put_entry g c =

@@ -4,7 +4,7 @@ use Rattle.certificates.proofs.Writes.{and_then, cut, same_text, nothing, flat_m
 use Rattle.certificates.proofs.writing.put_short_items.Goals as goal
 
 pub loop-item-init : goal.loop-item-init
-loop-item-init g c = nothing _ _ tt
+loop-item-init g c = nothing _ _ _ tt
 
 pub returns-in_err-put_number : goal.returns-in_err-put_number
 returns-in_err-put_number g c =

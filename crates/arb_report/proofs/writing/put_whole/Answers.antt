@@ -1,0 +1,8 @@
+use Rattle.certificates.proofs.Writes.{from_nothing, and_the_rest, gathered_short}
+use Rattle.arb_report.proofs.writing.put_whole.Goals as goal
+
+pub returns-in_err-put_report : goal.returns-in_err-put_report
+returns-in_err-put_report g c = gathered_short (from_nothing c.in_err-put_report.ensures c.new-held.ensures) _ c.from_residual.ensures.0
+
+pub returns : goal.returns
+returns g c = and_the_rest (from_nothing c.in_ok-put_report.ensures c.new-held.ensures) c.hand_on.ensures.written
