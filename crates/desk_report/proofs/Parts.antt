@@ -3,16 +3,16 @@ use Rattle.std.proofs.Common.{ℕ, ◌≡◌, ◌<◌, ◌≤◌, List, [], ◌�
 use Rattle.std.specs.Prelude.{Option, Any, IfSome, IsSome, option_and_then}
 use Rattle.std.specs.Option.{is_some}
 use Rattle.std.specs.List.{AllZip, list_any}
-use Rattle.std.specs.BTreeMap.{BTreeMap, get, keys, is_at, IsOrdered}
-use Rattle.std.specs.Cmp.Lexicographic.{slice_cmp, nat_list_cmp_total}
+use Rattle.std.specs.List.Sorted.{IsSorted}
+use Rattle.std.specs.Str.{bytes_eq}
+use Rattle.std.specs.Cmp.Lexicographic.{slice_cmp, nat_list_eq_equiv}
 use Rattle.std.specs.Ordering.{nat_cmp}
 use Rattle.std.specs.declared.cmp.Ordering.TheVariants.{Less}
 use Rattle.std.proofs.lemmas.List.{get_or-map, length-map, take_all}
 use Rattle.std.proofs.lemmas.Option.{slice_get_within, get_or_from_slice_get, slice_get-get_or}
-use Rattle.std.proofs.lemmas.Map.Entries.{place_from_lookup, btree_map_get_place}
-use Rattle.std.proofs.lemmas.Map.Keys.{Less-from_sorted}
-use Rattle.std.proofs.lemmas.Map.Text.{is_eq-slice_cmp}
+use Rattle.std.proofs.lemmas.Map.Entries.{place_from_lookup, hash_map_get_place}
 use Rattle.std.proofs.lemmas.Slice.Eq.{bytes_eq-Decides}
+use Rattle.indexmap.specs.IndexMap.{IndexMap, get, keys, IsUnique}
 use Rattle.scan_types.specs.declared.rule.VoidRule.{VoidRule}
 use Rattle.scan_types.specs.declared.offer.Offer.{Offer}
 use Rattle.finding_definitions.specs.declared.finding.Finding.{Finding}
@@ -28,6 +28,7 @@ use Rattle.report_laws.proofs.Boards.{same_sheets, same_matches}
 use Rattle.desk_report.specs.declared.marks.Mark.{Mark}
 use Rattle.desk_report.specs.Marks.{mark_in, mark_at}
 use Rattle.desk_report.specs.Judged.{filed_at, HasNewFinding, HasFindings, AllowsFindings, IsPart}
+use Rattle.desk_report.proofs.Names.{rises}
 use Rattle.desk_report.proofs.Zips.{AllZip-at, length-all_zip}
 use Rattle.desk_report.proofs.Sound.{IsFiledAt, IsMark, HasFiled, marks_sound, marks_quoted, marks_found}
 use Rattle.desk_report.proofs.Newest.{found_is, pin_is_earlier, filed_there}
@@ -74,15 +75,15 @@ abbrev pub GoTogether : List (Option VoidRule) → List Entry → List (List ℕ
 GoTogether rules h entries parts = AllZip (λ (entry : List ℕ × Mark) (part : MatchPart). IsPart rules h entry.0 entry.1 part) entries parts
 
 -- the parts of the marks of a history that holds the lines of the feeds are the matches of their report
-pub are_matches : (rules : List (Option VoidRule)) (allows : List Offer → Finding → Type 0) (h : List Entry) → IsLegal rules allows h → (m : BTreeMap (List ℕ) Mark) → IsOrdered (slice_cmp nat_cmp) m
+pub are_matches : {S : Type 0} (rules : List (Option VoidRule)) (allows : List Offer → Finding → Type 0) (h : List Entry) → IsLegal rules allows h → (m : IndexMap (List ℕ) Mark S) → IsSorted (slice_cmp nat_cmp) (keys m) → IsUnique bytes_eq m
     → ((q : List ℕ) → mark_in m q ≡ mark_at h (length h) q) → (parts : List MatchPart) → GoTogether rules h m.entries parts
     → (budget : ℕ) → AllowsFindings budget allows → (feeds : List SeenFeed) → HoldsLinesOf feeds rules h → AreMatchesOf budget feeds parts
-are_matches rules allows h legal m ordered marks parts z budget findings feeds holds =
+are_matches rules allows h legal m sorted unique marks parts z budget findings feeds holds =
     record {
       rising = λ i j d before last.
           less_along (get_or parts i d).match_name (get_or parts j d).match_name (get_or (keys m) i []) (get_or (keys m) j []) (name_at i d (omega arith)) (name_at j d last)
-          (Less-from_sorted (slice_cmp nat_cmp) (keys m) i j [] ordered before (omega (arith, long, length-map m.entries (λ (e : List ℕ × Mark). e.0))));
-      quoted = λ name q. quoted name (marked_quoted h name ∙ (same_matches feeds rules h holds name).1 q) (get (slice_cmp nat_cmp) m name) refl;
+          (rises (keys m) sorted unique i j [] before (omega (arith, long, length-map m.entries (λ (e : List ℕ × Mark). e.0))));
+      quoted = λ name q. quoted name (marked_quoted h name ∙ (same_matches feeds rules h holds name).1 q) (get bytes_eq m name) refl;
       only = λ k d l.
           let p = part_at k d l in
           subst (λ (name : List ℕ). IsQuoted feeds name) (sym p.name_is) ((same_matches feeds rules h holds _).0 (sym (marked_quoted h _) ∙ ap is_some (mark_is k l)));
@@ -106,19 +107,19 @@ are_matches rules allows h legal m ordered marks parts z budget findings feeds h
     mark_is : (k : ℕ) → k < length parts → mark_at h (length h) (get_or m.entries k blank_entry).0 ≡ Some (get_or m.entries k blank_entry).1
     mark_is k l =
         let e = get_or m.entries k blank_entry in
-        sym (marks e.0) ∙ btree_map_get_place nat_list_cmp_total m k e.0 e.1 ordered (slice_get-get_or m.entries k blank_entry (let same = long in omega arith))
+        sym (marks e.0) ∙ hash_map_get_place nat_list_eq_equiv m k e.0 e.1 unique (slice_get-get_or m.entries k blank_entry (let same = long in omega arith))
 
     name_at : (k : ℕ) (d : MatchPart) → k < length parts → (get_or parts k d).match_name ≡ get_or (keys m) k []
     name_at k d l =
         (part_at k d l).name_is
         ∙ sym (get_or-map (λ (e : List ℕ × Mark). e.0) m.entries k blank_entry [] (let e = long in omega arith))
 
-    quoted : (name : List ℕ) → is_some (mark_at h (length h) name) ≡ true → (o : Option Mark) → get (slice_cmp nat_cmp) m name ≡ o → Any (λ part. part.match_name ≡ name) parts
+    quoted : (name : List ℕ) → is_some (mark_at h (length h) name) ≡ true → (o : Option Mark) → get bytes_eq m name ≡ o → Any (λ part. part.match_name ≡ name) parts
     quoted name n None e = absurd (let none : is_some (mark_at h (length h) name) ≡ is_some {T = Mark} None = ap is_some (sym (marks name) ∙ e) in cc)
     quoted name n (Some mark) e =
-        let place = place_from_lookup (is_at (slice_cmp nat_cmp name)) m.entries mark e in
+        let place = place_from_lookup (bytes_eq name) m.entries mark e in
         let within : place.0 < length parts = let w = slice_get_within m.entries place.0 (place.1, mark) place.2 in let e = long in omega arith in
-        let same : name ≡ place.1 = (bytes_eq-Decides name place.1).0 (sym (is_eq-slice_cmp name place.1) ∙ place.3) in
+        let same : name ≡ place.1 = (bytes_eq-Decides name place.1).0 place.3 in
         any_at (λ (part : MatchPart). part.match_name ≡ name) parts place.0 within
         (λ d. (part_at place.0 d within).name_is
         ∙ ap (λ (entry : List ℕ × Mark). entry.0) (get_or_from_slice_get m.entries place.0 (place.1, mark) blank_entry place.2)

@@ -1,18 +1,16 @@
 -- What the history says of each match: where it was last changed, and where a finding was filed for it after that.
 use Rattle.std.specs.Prelude.{ℕ, zero, suc, nat_lt, List, Option, Some, None, option_map, option_and_then, slice_get, if◌then◌else◌}
 use Rattle.std.specs.Option.{option_map_or}
-use Rattle.std.specs.BTreeMap.{BTreeMap, get}
-use Rattle.std.specs.Cmp.Lexicographic.{slice_cmp}
-use Rattle.std.specs.Ordering.{nat_cmp}
 use Rattle.std.specs.Str.{bytes_eq}
+use Rattle.indexmap.specs.IndexMap.{IndexMap, get}
 use Rattle.board_definitions.specs.declared.event.Event.{Event}
 use Rattle.board_definitions.specs.declared.event.Event.TheVariants.{Quoted, Withdrawn, Pinned, Filed}
 use Rattle.board_definitions.specs.declared.event.Entry.{Entry}
 use Rattle.desk_report.specs.declared.marks.Mark.{Mark}
 
 -- the mark of a match
-abbrev pub mark_in : BTreeMap (List ℕ) Mark → List ℕ → Option Mark
-mark_in marks match_name = get (slice_cmp nat_cmp) marks match_name
+abbrev pub mark_in : {S : Type 0} → IndexMap (List ℕ) Mark S → List ℕ → Option Mark
+mark_in marks match_name = get bytes_eq marks match_name
 
 -- the match that an event pins
 abbrev pub pinned_by : Event → Option (List ℕ)

@@ -1,9 +1,8 @@
 //! Each match that was quoted, with its newest sheet and its finding.
 ghost use Rattle.std.specs.Prelude.{◌≡◌, ◌∷◌, ℕ, List, Some, length, IfOk, IfSome, IsSome, option_and_then};
 ghost use Rattle.std.specs.List.{AllZip};
-ghost use Rattle.std.specs.BTreeMap.{IsOrdered};
-ghost use Rattle.std.specs.Cmp.Lexicographic.{slice_cmp};
-ghost use Rattle.std.specs.Ordering.{nat_cmp};
+ghost use Rattle.std.specs.Str.{bytes_eq};
+ghost use Rattle.indexmap.specs.IndexMap.{IsUnique};
 ghost use Rattle.report_definitions.specs.Seen.{SeenFeed};
 ghost use Rattle.report_definitions.specs.Report.{AreMatchesOf};
 ghost use Rattle.report_laws.specs.Boards.{HoldsLinesOf};
@@ -14,11 +13,11 @@ use crate::marks::{Mark, marks_of};
 use crate::sheets::newest_sheet;
 use board_definitions::{Entry, Event, Law};
 use finding_definitions::Finding;
+use indexmap::IndexMap;
 use quote_board::Board;
 use report_definitions::{MatchPart, MatchParts};
 use scan_types::{Name, WantOfMemory};
 use std::alloc::Global;
-use std::collections::BTreeMap;
 
 // A copy of the finding that the entry at this place files.
 fn finding_at(alloc: Global, history: &[Entry], place: u64) -> Result<Finding, WantOfMemory>
@@ -68,10 +67,10 @@ fn part_of<W: Law>(
 fn parts_of<W: Law>(
     alloc: Global,
     board: &Board<W>,
-    marks: &BTreeMap<Name, Mark>,
+    marks: &IndexMap<Name, Mark>,
 ) -> Result<Vec<MatchPart>, WantOfMemory>
     requires { (q : List ℕ) → IfSome (mark_in marks.now q) (λ mark. IsSome (option_and_then (filed_at board.now.history) mark.filed)) }
-    ensures rising { IsOrdered (slice_cmp nat_cmp) marks.now }
+    ensures unique { IsUnique bytes_eq marks.now }
     ensures parts { IfOk result (λ parts. AllZip (λ entry part. IsPart board.now.fixed.rules board.now.history entry.0 entry.1 part) marks.now.entries parts.items) }
 {
     let mut parts = Vec::with_capacity(alloc, marks.len())?;
@@ -87,8 +86,8 @@ fn parts_of<W: Law>(
 /// the one last filed for a pin after its last change. If the board holds the lines of some feeds, they are the matches of the report of
 /// those feeds.
 ///
-/// Each match that was quoted has such a finding. Costs a search among the matches for each entry of the history, and memory for what it
-/// returns and for the marks. Fails only if no memory is left.
+/// Each match that was quoted has such a finding. Costs a look-up of the match for each entry of the history, a sort of the matches, and
+/// memory for what it returns and for the marks. Fails only if no memory is left.
 pub fn make_matches<W: Law>(alloc: Global, board: &Board<W>) -> Result<MatchParts, WantOfMemory>
     requires { HasFindings board.now.history }
     ensures { IfOk result (λ matches. (budget : ℕ) → AllowsFindings budget (W.allows board.now.fixed.law) →

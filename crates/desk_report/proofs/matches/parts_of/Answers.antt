@@ -1,14 +1,14 @@
 use Rattle.std.proofs.Common.{ℕ, ◌≡◌, ◌≤◌, ◌<◌, List, [], ◌∷◌, ◌++◌, length, map, Some, subst, arith, rules}
 use Rattle.std.specs.Prelude.{Option, IfSome, IsSome, option_and_then, vec_len, vec_capacity}
-use Rattle.std.specs.BTreeMap.{get}
+use Rattle.std.specs.Str.{bytes_eq}
+use Rattle.indexmap.specs.IndexMap.{get}
 use Rattle.std.specs.List.{AllZip}
 use Rattle.std.specs.Map.Iter.{deref_pair}
-use Rattle.std.specs.Cmp.Lexicographic.{slice_cmp, nat_list_cmp_total}
-use Rattle.std.specs.Ordering.{nat_cmp}
+use Rattle.std.specs.Cmp.Lexicographic.{nat_list_eq_equiv}
 use Rattle.std.proofs.lemmas.List.{map-append, length-map}
 use Rattle.std.proofs.lemmas.Grind.{common_steps}
 use Rattle.desk_report.proofs.Zips.{AllZip-push_pair, length-all_zip}
-use Rattle.std.proofs.lemmas.Map.Iter.{btree_map_turn, iter_end}
+use Rattle.std.proofs.lemmas.Map.Iter.{hash_map_turn, iter_end}
 use Rattle.report_definitions.specs.declared.match_part.MatchPart.{MatchPart}
 use Rattle.desk_report.specs.declared.marks.Mark.{Mark}
 use Rattle.desk_report.specs.Judged.{filed_at, IsPart}
@@ -16,15 +16,15 @@ use Rattle.desk_report.proofs.matches.parts_of.Goals as goal
 
 pub part_of-requires : goal.part_of-requires
 part_of-requires g c =
-    let turn = btree_map_turn deref_pair c.loop-match_name.yielded c.into_iter-match_name-iterator.result c.loop-match_name.match_name-iterator c.next.new.self c.next.result
-    (c.in-Some.match_name, c.in-Some.mark) c.loop-match_name.yielded_by c.in-Some.is c.next.ensures.steps nat_list_cmp_total c.args.marks.now (search rules) c.len.ensures.ordered in
-    let found : get (slice_cmp nat_cmp) c.args.marks.now c.in-Some.match_name.now ≡ Some c.in-Some.mark.now = turn.1 in
+    let turn = hash_map_turn deref_pair c.loop-match_name.yielded c.into_iter-match_name-iterator.result c.loop-match_name.match_name-iterator c.next.new.self c.next.result
+    (c.in-Some.match_name, c.in-Some.mark) c.loop-match_name.yielded_by c.in-Some.is c.next.ensures.steps nat_list_eq_equiv c.args.marks.now (search rules) c.len.ensures.unique in
+    let found : get bytes_eq c.args.marks.now c.in-Some.match_name.now ≡ Some c.in-Some.mark.now = turn.1 in
     subst (λ (o : Option Mark). IfSome o (λ mark. IsSome (option_and_then (filed_at c.args.board.now.history) mark.filed))) found (c.requires c.in-Some.match_name.now)
 
 pub prove-unreachable-requires : goal.prove-unreachable-requires
 prove-unreachable-requires g c =
-    let turn = btree_map_turn deref_pair c.loop-match_name.yielded c.into_iter-match_name-iterator.result c.loop-match_name.match_name-iterator c.next.new.self c.next.result
-    (c.in-Some.match_name, c.in-Some.mark) c.loop-match_name.yielded_by c.in-Some.is c.next.ensures.steps nat_list_cmp_total c.args.marks.now (search rules) c.len.ensures.ordered in
+    let turn = hash_map_turn deref_pair c.loop-match_name.yielded c.into_iter-match_name-iterator.result c.loop-match_name.match_name-iterator c.next.new.self c.next.result
+    (c.in-Some.match_name, c.in-Some.mark) c.loop-match_name.yielded_by c.in-Some.is c.next.ensures.steps nat_list_eq_equiv c.args.marks.now (search rules) c.len.ensures.unique in
     let more : length c.loop-match_name.yielded < length c.args.marks.now.entries = turn.0 in
     let same : length c.loop-match_name.parts.items ≡ length (map deref_pair c.loop-match_name.yielded) =
     length-all_zip (λ (entry : List ℕ × Mark) (part : MatchPart). IsPart c.args.board.now.fixed.rules c.args.board.now.history entry.0 entry.1 part) (map deref_pair c.loop-match_name.yielded) c.loop-match_name.parts.items c.loop-match_name.invariant.parts in

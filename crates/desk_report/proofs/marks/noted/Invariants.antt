@@ -1,6 +1,6 @@
 use Rattle.std.proofs.Common.{ℕ, ◌≡◌, List}
 use Rattle.desk_report.specs.Marks.{mark_in, mark_at}
-use Rattle.desk_report.proofs.marks.marks_of.Given as goal
+use Rattle.desk_report.proofs.marks.noted.Given as goal
 
 -- each match has its mark after the entries so far
 abbrev pub invariant-loop-place : goal.invariant-loop-place
