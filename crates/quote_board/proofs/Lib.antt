@@ -12,3 +12,4 @@ pub mod Copies
 pub mod WholeSheets
 pub mod ShortHistories
 pub mod CheckedFeeds
+pub mod Turning

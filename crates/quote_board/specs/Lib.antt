@@ -3,3 +3,4 @@ pub mod Views
 pub mod Kept
 pub mod Answers
 pub mod Parts
+pub mod Shared

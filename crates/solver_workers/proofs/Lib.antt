@@ -1,0 +1,4 @@
+pub mod Picking
+pub mod Holding
+pub mod Prefixes
+pub mod Working
