@@ -303,7 +303,7 @@ def all_offers(match, feeds):
         row = [feeds[offer.feed].book, bet(offer), odds(offer), money(offer.limit)]
         if stakes:
             row.append(decimal(Fraction(finding.parts[place], 100 * finding.divisor),
-                               2 if finding.kind == "arb" else 6) if finding.parts[place] else "")
+                               2 if finding.kind == "arb" else 4) if finding.parts[place] else "")
         if means:
             row.append(percent(mean(offer, feeds[offer.feed].rule, finding.measure), 2))
         rows.append(row)
@@ -508,6 +508,7 @@ summary::-webkit-details-marker { display: none; }
 .t-narrow, .t-wide, .t-out-of-pivots { background: var(--n2); }
 .body { padding: .5rem .75rem .75rem; border-top: 1px solid var(--rule); }
 .grids { display: flex; flex-wrap: wrap; gap: 0 2rem; } figure { margin: .75rem 0; min-width: 0; max-width: 100%; }
+figcaption, .axes { max-width: 20rem; }
 figcaption { font-weight: 600; font-size: .9rem; margin-bottom: .25rem; } .axes { margin: .25rem 0; }
 .grid { font-size: .75rem; } .grid th { text-align: center; padding: .2rem .4rem; border: 0; }
 .grid td { text-align: right; padding: .3rem .35rem; min-width: 2.6rem; border: 1px solid var(--card); }

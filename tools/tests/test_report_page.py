@@ -77,13 +77,13 @@ class Pages(unittest.TestCase):
 
     def test_thin(self):
         page = self.page(report(THIN, "6"))
-        self.assert_has(page, "<td>draw<td class=r>4.000<td class=r>0.06<td class=r>0.031500",
+        self.assert_has(page, "<td>draw<td class=r>4.000<td class=r>0.06<td class=r>0.0315",
                         "win at most 0.650000 minor units on average",
                         "would be 1.000000 on average", "<td class=w4>52.8")
 
     def test_findings_that_decide_nothing(self):
         self.assert_has(self.page(report(NARROW, "10")), "fail once each is rounded down",
-                        "<td class=r>≈\u202f0.092308")
+                        "<td class=r>≈\u202f0.0923")
         self.assert_has(self.page(report("wide 1 7 entry 3 4")), "in the run without limits, after 7 "
                         "pivots, a number left its range: an entry of its table, at row 3 and column 4")
         self.assert_has(self.page(report("wide 3 7 weight 2")), "the weight of class 2")
