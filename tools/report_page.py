@@ -62,8 +62,7 @@ class Wrong(Exception):
 
 def read_report(text):
     """The feeds and the matches of a report, and its budget of pivots."""
-    lines = text.split("\n")
-    place = 0
+    lines, place = [*text.split("\n"), ""], 0
 
     def take(pattern):
         nonlocal place

@@ -204,6 +204,11 @@ class Reading(unittest.TestCase):
         self.assert_wrong("", 1)
         self.assert_wrong(b"\xff\n", 1)
 
+    def test_each_text_that_ends_early(self):
+        for end in range(len(self.GOOD)):
+            with self.subTest(end), self.assertRaises(check_report.Wrong):
+                check_report.read_report(check_report.Text(self.GOOD[:end].encode()))
+
     def test_matches_rise(self):
         match = "match m1 offers 0\nfinding coherent 1 full 0 0 1\n"
         self.assert_wrong(HEAD + match + match + "end\n", 7)

@@ -97,6 +97,18 @@ class Feeds(Folder):
             "  VC      1x2  closing: 1x2", "  Max     1x2  (no book: of several)"])
         self.assertEqual(out.splitlines()[0], f"{path}: 1 rows")
 
+    def test_statistics_are_no_books(self):
+        path = self.put(
+            "Div,Date,Time,HomeTeam,AwayTeam,FTHG,FTAG,FTR,HTHG,HTAG,HTR,Referee,HS,AS,HST,AST,HF,AF,HC,"
+            "AC,HY,AY,HR,AR,B365H,B365D,B365A,1XBH,1XBD,1XBA,MaxH,MaxD,MaxA,BFEH,BFED,BFEA,P>2.5,P<2.5,"
+            "BFE>2.5,BFE<2.5,AHh,B365AH,B365AHH,B365AHA,PAHH,PAHA,MaxAHH,MaxAHA,B365CH,B365CD,B365CA,"
+            "1XBCH,1XBCD,1XBCA,MaxCH,MaxCD,MaxCA,PC>2.5,PC<2.5,AHCh,B365CAHH,B365CAHA,PCAHH,PCAHA\n")
+        _, out, _ = run(feeds_from_csv.main, path, "--list")
+        self.assertEqual(out.splitlines()[1:], [
+            "  B365    1x2, handicaps  closing: 1x2, handicaps", "  1XB     1x2  closing: 1x2",
+            "  Max     1x2, handicaps  closing: 1x2  (no book: of several)", "  BFE     1x2, totals",
+            "  PS      totals, handicaps  closing: totals, handicaps"])
+
     def test_the_same_on_each_run(self):
         text = HEADER + "\n" + ROW + "\n" + ROW + "\n"
         self.run_on(text)

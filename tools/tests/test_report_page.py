@@ -144,6 +144,9 @@ class Pages(unittest.TestCase):
             status, _, err = run(report_page.main, self.put("a", text), "-o", out)
             self.assertEqual(status, 2, text)
             self.assertTrue(err.startswith("error: "))
+        for end in range(len(good) - 1):
+            with self.subTest(end), self.assertRaises(report_page.Wrong):
+                report_page.read_report(good[:end].removesuffix("end"))
         path = self.put("a", good)
         for words in ((path, "-o", self.folder), (path + "x", "-o", out),
                       (path, "--names", path, "-o", out), (path, "--names", path + "x", "-o", out)):
