@@ -95,7 +95,8 @@ def read_report(text):
 
 
 def read_offer(feed, market, line, side, whole, decimals, limit, feeds):
-    if int(feed) >= len(feeds) or (line is None) != (market == "1x2"):
+    sides = {"1x2": "home draw away", "ah": "home away", "total": "over under"}[market].split(" ")
+    if int(feed) >= len(feeds) or (line is None) != (market == "1x2") or side not in sides:
         raise Wrong(f"an offer of feed {feed} is not as in docs/FORMATS.md")
     quarters = 0 if line is None else int(line.replace(".", "")) // 25
     return Offer(int(feed), market, quarters, side, int(whole + decimals), int(limit))
@@ -122,7 +123,8 @@ def read_finding(words):
         return Finding(kind, 1, [], measure(), [])
     if kind in ("thin", "narrow"):
         return Finding(kind, max(1, number()), parts(), measure(), [])
-    int(words[2])
+    if not (words[1].isdecimal() and words[2].isdecimal()):
+        raise ValueError
     return Finding(kind, 1, [], [], words[1:])
 
 

@@ -140,7 +140,8 @@ class Pages(unittest.TestCase):
         good = report("arb 3 1 1 1")
         for text in ("", "x", good.replace("end\n", ""), good.replace("arb 3", "odd 3"),
                      good.replace("arb 3", "arb 4"), good.replace("offer 1", "offer 2"),
-                     good.replace("pivots 4096", "pivots"), good.replace("1x2 draw", "ah draw")):
+                     good.replace("pivots 4096", "pivots"), good.replace("1x2 draw", "ah draw"),
+                     good.replace("1x2 draw", "1x2 over"), report("wide x 7 stake 1")):
             status, _, err = run(report_page.main, self.put("a", text), "-o", out)
             self.assertEqual(status, 2, text)
             self.assertTrue(err.startswith("error: "))
