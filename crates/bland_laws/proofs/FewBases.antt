@@ -1,24 +1,17 @@
 -- Different lists of rising numbers are few: those that begin with the lowest number are as many as their rests, which leave
 -- that number out, and the others leave it out too.
-use Rattle.std.proofs.Common.{◌≡◌, ◌≢◌, ℕ, zero, suc, ◌+◌, ◌<◌, ◌≤◌, ◌==◌, Bool, true, false, cond, List, [], ◌∷◌, length, refl, sym, ap, ap₂, ◌∙◌, subst, arith}
+use Rattle.std.proofs.Common.{◌≡◌, ◌≢◌, ℕ, zero, suc, ◌+◌, ◌<◌, ◌≤◌, ◌==◌, cond, List, [], ◌∷◌, length, refl, sym, ap₂, ◌∙◌, subst, arith}
 use Rattle.std.specs.List.{All, AllPairs}
-use Rattle.std.proofs.lemmas.Bool.Decides.{nat_tests}
 use Rattle.std.proofs.lemmas.List.Elements.{All-nil, All-cons, All-head, All-tail, All-weaker}
 use Rattle.std.proofs.lemmas.List.Kept.{AllPairs-cons}
-use Rattle.pivot_definitions.proofs.Ring.{by_eq}
+use Rattle.bland_laws.proofs.NumberTests.{by_test}
 use Rattle.bland_laws.specs.Ways.{ways, IsWay}
 use Rattle.bland_laws.specs.Laws.{FewBases}
 
--- what a test of two numbers comes to
-pub by_test : (P : Bool → Type 0) (a b : ℕ) → (a ≡ b → P true) → (a ≢ b → P false) → P (a == b)
-by_test P a b same differ = by_eq a b
-    (λ e. let t : (a == b) ≡ true = grind (arith, nat_tests) in subst P (sym t) (same e))
-    (λ ne. let t : (a == b) ≡ false = grind (arith, nat_tests) in subst P (sym t) (differ ne))
-
-AllPairs-head : {X : Type 0} (R : X → X → Type 0) (x : X) (xs : List X) → AllPairs R (x ∷ xs) → All (R x) xs
+pub AllPairs-head : {X : Type 0} (R : X → X → Type 0) (x : X) (xs : List X) → AllPairs R (x ∷ xs) → All (R x) xs
 AllPairs-head R x xs pairs = λ k d h. pairs 0 (suc k) d (omega arith) (omega arith)
 
-AllPairs-tail : {X : Type 0} (R : X → X → Type 0) (x : X) (xs : List X) → AllPairs R (x ∷ xs) → AllPairs R xs
+pub AllPairs-tail : {X : Type 0} (R : X → X → Type 0) (x : X) (xs : List X) → AllPairs R (x ∷ xs) → AllPairs R xs
 AllPairs-tail R x xs pairs = λ i j d h k. pairs (suc i) (suc j) d (omega arith) (omega arith)
 
 AllPairs-nil : {X : Type 0} (R : X → X → Type 0) → AllPairs R []
