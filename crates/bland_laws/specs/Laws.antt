@@ -5,16 +5,12 @@ use Rattle.pivot_definitions.specs.Programs.{LinearProgram, IsProgram, IsCapped}
 use Rattle.pivot_definitions.specs.Tableaus.{SimplexTableau, built}
 use Rattle.pivot_definitions.specs.Runs.{EndsOutOfPivots}
 use Rattle.bland_laws.specs.Ways.{ways, IsWay}
-use Rattle.bland_laws.specs.Bases.{basis_of}
+use Rattle.bland_laws.specs.Bases.{basis_of, basis_count}
 use Rattle.bland_laws.specs.PlainRuns.{PlainRunsTo}
 
 -- different choices of `k` numbers below `n` are at most as many as there are ways
 abbrev pub FewBases : Type 0
 FewBases = (n k : ℕ) (lists : List (List ℕ)) → All (IsWay n k) lists → AllPairs (λ x y. x ≢ y) lists → length lists ≤ ways n k
-
--- how many bases a program's tableaus can have: the ways to choose as many of its columns and slack columns as it has rows
-abbrev pub basis_count : LinearProgram → ℕ
-basis_count program = ways (program.columns + program.rows) program.rows
 
 -- the basis of each tableau that a run of a capped program reaches is one of these ways
 abbrev pub BasisIsWay : Type 0
