@@ -4,5 +4,6 @@ pub mod Verdicts
 pub mod Fractions
 pub mod Findings
 pub mod Best
+pub mod Truths
 pub mod Text
 pub mod Readable

@@ -8,6 +8,9 @@
 ghost use Rattle.price_duality.specs.Duality.{RulesOutUnit, RulesOutReach, RulesOutArbitrage};
 ghost use Rattle.price_duality.specs.Duality.{ThinRulesOutReach, ThinRulesOutArbitrage, NarrowRulesOutSlack};
 ghost use Rattle.price_duality.specs.MostGain.{MeasureBoundsGain, BestGainsMost};
+{}
+
+ghost use Rattle.price_duality.specs.Duality.{ThinRulesOutReach, ThinRulesOutArbitrage, NarrowRulesOutSlack, RightIsTrue};
 
 /// Under a right price measure no stakes, in fractions and under any limits, win one minor unit at every
 /// final score and lose nothing at any abandonment.
@@ -43,4 +46,10 @@ pub fn measure_bounds_gain()
 /// If the bound of the measure is the sure gain of the stakes, no others win at every final score more.
 pub fn best_gains_most()
     ensures { BestGainsMost }
+{}
+
+/// A right finding is true of its sheet, in the words of stakes: under `Coherent` and `Thin` no stakes within the limits, in fractions or
+/// whole, win one minor unit at every final score and lose nothing at any abandonment; under `Coherent` none do under any limits.
+pub fn right_findings_are_true()
+    ensures { RightIsTrue }
 {}
