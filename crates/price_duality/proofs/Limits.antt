@@ -31,7 +31,7 @@ contradiction d a b c r w s some e1 h1 e2 h2 h3 e3 = omega (arith, ints)
 sum-times : (m n : ℕ) (z : ℤ) → pos (m + n) *ℤ z ≡ pos m *ℤ z +ℤ pos n *ℤ z
 sum-times m n z = omega (arith, ints)
 
-times-times : (p q : ℕ) (z : ℤ) → pos (p * q) *ℤ z ≡ pos p *ℤ (pos q *ℤ z)
+pub times-times : (p q : ℕ) (z : ℤ) → pos (p * q) *ℤ z ≡ pos p *ℤ (pos q *ℤ z)
 times-times zero q z = let none : 0 * q ≡ 0 = omega arith in ap (λ n. pos n *ℤ z) none ∙ zero-*ℤ z ∙ sym (zero-*ℤ (pos q *ℤ z))
 times-times (suc p) q z =
     let more : suc p * q ≡ p * q + q = omega arith in

@@ -84,7 +84,7 @@ factor_off_by d a b (pos n) apart less =
     absurd (omega (arith, ints, less, back))
 factor_off_by d a b (negsuc n) apart less = omega (arith, ints, apart)
 
-times_lt : (w : ℕ) (a b : ℤ) → 1 ≤ w → a <ℤ b → (pos w *ℤ a) <ℤ (pos w *ℤ b)
+pub times_lt : (w : ℕ) (a b : ℤ) → 1 ≤ w → a <ℤ b → (pos w *ℤ a) <ℤ (pos w *ℤ b)
 times_lt w a b some less =
     let up : (pos w *ℤ (a +ℤ pos 1)) ≤ℤ (pos w *ℤ b) = times_le w (a +ℤ pos 1) b (omega (arith, ints, less)) in
     let apart : pos w *ℤ (a +ℤ pos 1) ≡ pos w *ℤ a +ℤ pos w *ℤ pos 1 = times-sum w a (pos 1) in
@@ -110,7 +110,7 @@ more_than_bound d e f least most total heavy equal more =
     (subst (λ z. (pos (2000 * e) *ℤ most) <ℤ (z *ℤ total)) (sym whole) (crossed (2000 * d) (2000 * e) (2000 * f) least most total (omega (arith, heavy)) tied won))
 
 -- the least gain is one number
-one_least : (offers : List Offer) (parts : List ℕ) (a b : ℤ) → IsLeastGain offers parts a → IsLeastGain offers parts b → a ≡ b
+pub one_least : (offers : List Offer) (parts : List ℕ) (a b : ℤ) → IsLeastGain offers parts a → IsLeastGain offers parts b → a ≡ b
 one_least offers parts a b first second =
     let (h, w, is) = first.reached in
     let (k, v, are) = second.reached in

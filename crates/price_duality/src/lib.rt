@@ -6,10 +6,7 @@
 #![tactic(auto)]
 
 ghost use Rattle.price_duality.specs.Duality.{RulesOutUnit, RulesOutReach, RulesOutArbitrage};
-ghost use Rattle.price_duality.specs.Duality.{ThinRulesOutReach, ThinRulesOutArbitrage, NarrowRulesOutSlack};
 ghost use Rattle.price_duality.specs.MostGain.{MeasureBoundsGain, BestGainsMost};
-{}
-
 ghost use Rattle.price_duality.specs.Duality.{ThinRulesOutReach, ThinRulesOutArbitrage, NarrowRulesOutSlack, RightIsTrue};
 
 /// Under a right price measure no stakes, in fractions and under any limits, win one minor unit at every
