@@ -7,8 +7,8 @@ use Rattle.std.proofs.lemmas.Fmt.{decimal_digit}
 use Rattle.number_definitions.specs.Spellings.{odds_text}
 use Rattle.scan_types.specs.declared.offer.Offer.{Offer}
 use Rattle.scan_types.specs.declared.selection.Selection.{Selection}
-use Rattle.certificates.specs.Written.{spaced}
-use Rattle.certificates.proofs.Writes.{join_spaced, spaced-append, flat_map_take, flat_map_rest}
+use Rattle.text_out.specs.Written.{spaced}
+use Rattle.text_out.proofs.Writes.{join_spaced, spaced-append, flat_map_take, flat_map_rest}
 use Rattle.bet_definitions.specs.Bets.{market_text, bet_form, line_fields, selection_fields}
 use Rattle.report_definitions.specs.Words.{line_of}
 use Rattle.report_definitions.specs.Report.{offer_line, title_line}

@@ -2,12 +2,13 @@
 ghost use Rattle.std.specs.Prelude.{◌≡◌};
 ghost use Rattle.report_definitions.specs.Report.{feed_line, refusal_line, offer_line, match_line, pivots_line};
 
-use crate::words::{cause_word, push_field, push_number, push_word, stop_word};
+use crate::words::{cause_word, stop_word};
 use bet_words::{put_selection, rule_word};
 use feed_definitions::Refusal;
 use odds_fixed::{TextBuf, put_odds};
 use report_definitions::{FeedPart, MatchPart};
 use scan_types::Offer;
+use text_out::{push_field, push_number, push_word};
 
 // The line of the pivots.
 pub(crate) fn pivots_line(pivots: u32) -> TextBuf
