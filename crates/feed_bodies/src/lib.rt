@@ -8,3 +8,4 @@ mod body;
 mod taking;
 
 pub use body::read_body;
+pub use taking::{add_line, stop_of};

@@ -16,7 +16,7 @@ use quote_board::Board;
 use scan_types::WantOfMemory;
 
 /// How the feed stops at the step, if it does.
-pub(crate) fn stop_of(step: &Step) -> Option<FeedStop>
+pub fn stop_of(step: &Step) -> Option<FeedStop>
     ensures { result ≡ stop_of step.now }
 {
     match step {
@@ -29,7 +29,7 @@ pub(crate) fn stop_of(step: &Step) -> Option<FeedStop>
 }
 
 /// Adds the entry of an accepted line of the feed.
-fn add_line<W: Law>(board: &mut Board<W>, feed: u8, line: Accepted) -> Result<(), WantOfMemory>
+pub fn add_line<W: Law>(board: &mut Board<W>, feed: u8, line: Accepted) -> Result<(), WantOfMemory>
     requires number { feed < MOST_FEEDS }
     requires holds { HoldsLines board.old.fixed.rules board.old.history feed (lines_in board.old.history feed) }
     requires accepted { IsAcceptedAfter (lines_in board.old.history feed) line }

@@ -210,9 +210,15 @@ module _ (bytes : List ℕ) (start k : ℕ) (at : IsAtLine bytes start k) where
       within = omega (arith, found.within, length-looked_at bytes);
     }
 
+    -- more lines end than were answered
+    pub more_ended : k < length (ended_lines bytes)
+    more_ended =
+        let parts_ = ap length (ap ended_lines parts ∙ ended_joined text others) in
+        omega (arith, parts_, count_text, length-append (ended_lines text) (front (onto (unended text) (pieces others))))
+
   -- no line feed follows
   module _ (one : IsOneLine (drop start (looked_at bytes))) where
-    ended_looked : ended_lines (looked_at bytes) ≡ ended_lines (take start bytes)
+    pub ended_looked : ended_lines (looked_at bytes) ≡ ended_lines (take start bytes)
     ended_looked =
         ap ended_lines (sym (take-append-drop start (looked_at bytes)) ∙ ap (λ l. l ++ drop start (looked_at bytes)) (front_of_looked bytes start at.low at.within))
         ∙ ended_open (take start bytes) (drop start (looked_at bytes)) at.whole one

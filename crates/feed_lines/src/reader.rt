@@ -7,7 +7,7 @@ ghost use Rattle.feed_definitions.specs.declared.step.Step.TheVariants as any;
 ghost use Rattle.feed_definitions.specs.Lines.{ended_lines};
 ghost use Rattle.feed_definitions.specs.Feed.{accepted_in};
 ghost use Rattle.feed_definitions.specs.Answers.{ends_feed};
-ghost use Rattle.feed_lines.specs.Taking.{GoesOn};
+ghost use Rattle.feed_lines.specs.Taking.{GoesOn, looked_at};
 ghost use Rattle.feed_lines.specs.Reader.{IsAtLine, IsReadOut, StandsSo, its_steps, answered, is_read_fault, is_of_line, drained_by, failed_by, IsNumbered, IsInRange, IsWhole};
 
 use crate::answer::answer;
@@ -119,6 +119,20 @@ impl<S: Source + Drop> FeedReader<S> {
         ensures { result ≡ self.now.over }
     {
         self.over
+    }
+
+    /// Whether the next line is in hand whole, with its line feed, so that `next` makes no read. Looks at the bytes of that line.
+    pub fn has_line(&self) -> bool
+        ensures no_read { result ≡ true → self.now.answers < length (ended_lines self.now.taken) }
+        ensures exact { self.now.over ≡ false → self.now.drained ≡ false → result ≡ false → length (ended_lines (looked_at self.now.taken)) ≡ self.now.answers }
+    {
+        if self.over {
+            return false;
+        }
+        if self.drained {
+            return false;
+        }
+        self.taken.has_line()
     }
 
     /// How many lines were answered so far, the header included.

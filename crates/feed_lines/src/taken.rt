@@ -1,5 +1,5 @@
 //! The bytes taken from a source.
-ghost use Rattle.std.specs.Prelude.{◌≡◌, ◌⊎◌, ◌+◌, ◌-◌, ◌<◌, ◌≤◌, [], false, true, length, take, drop, vec_len, vec_capacity, MatchOption, IfOk, IsOk, OnOk, OnErr};
+ghost use Rattle.std.specs.Prelude.{◌≡◌, ◌⊎◌, ◌+◌, ◌-◌, ◌<◌, ◌≤◌, [], false, true, length, take, drop, vec_len, vec_capacity, MatchOption, MatchBool, ℕ, IfOk, IsOk, OnOk, OnErr};
 ghost use Rattle.std.specs.Io.KnownBytes.{IsAtEnd};
 ghost use Rattle.scan_types.specs.declared.limits.TheConstants.{MOST_FEED_BYTES};
 ghost use Rattle.desk_io.specs.Faults.{Rose};
@@ -78,6 +78,19 @@ impl Taken {
     {
         let looked = self.looked_at();
         find(&looked[from..], b'\n').map(|at| from + at)
+    }
+
+    /// Whether a line feed stands from the start on, among the bytes that are looked at.
+    pub fn has_line(&self) -> bool
+        requires { self.now.start ≤ length (looked_at self.now.bytes.items) }
+        ensures { MatchBool result
+            ((end : ℕ) × IsEndedAt (looked_at self.now.bytes.items) self.now.start end)
+            (IsOneLine (drop self.now.start (looked_at self.now.bytes.items))) }
+    {
+        match self.line_feed_from(self.start) {
+            Some(_) => true,
+            None => false,
+        }
     }
 
     /// Makes one read, and returns how many bytes it took: 0 only if none are left.
