@@ -1,0 +1,4 @@
+pub mod Lines
+pub mod Gathered
+pub mod Rounds
+pub mod Going
