@@ -1,6 +1,6 @@
 -- A round of a feed: what was gathered is put, as far as memory is left.
-use Rattle.std.proofs.Common.{ℕ, ◌≡◌, ◌≤◌, List, [], ◌∷◌, ◌++◌, length, take, drop, refl, sym, ap, ◌∙◌, subst, append_assoc, append-nil, Some, None, true, false}
-use Rattle.std.specs.Prelude.{◌≢◌, Option, IsSome}
+use Rattle.std.proofs.Common.{ℕ, ◌≡◌, ◌≤◌, ◌<◌, List, [], ◌∷◌, ◌++◌, length, take, drop, refl, sym, ap, ◌∙◌, subst, arith, append_assoc, append-nil, Some, None, true, false, ⊎_elim}
+use Rattle.std.specs.Prelude.{◌≢◌, ◌⊎◌, Option, IsSome}
 use Rattle.std.proofs.lemmas.List.{take-append-drop, take_all}
 use Rattle.scan_types.specs.declared.rule.VoidRule.{VoidRule}
 use Rattle.feed_definitions.specs.declared.accepted.Accepted.{Accepted}
@@ -112,3 +112,13 @@ put_none left feed rules header reader own rule none begun =
       },
       none,
     )
+
+-- no fault is counted by a round that has lines in hand
+pub none_counted : {Same : Type 0} (result : Option FeedStop) (lines : List Accepted) → (result ≢ Some stops.ReadFault → Same) → (result ≡ Some stops.ReadFault → (lines ≡ []) ⊎ Same) →
+    0 < length lines → Same
+none_counted None lines other here some = other (λ h. absurd (cc h))
+none_counted (Some stops.End) lines other here some = other (λ h. absurd (cc h))
+none_counted (Some stops.Cut) lines other here some = other (λ h. absurd (cc h))
+none_counted (Some stops.NoMemory) lines other here some = other (λ h. absurd (cc h))
+none_counted (Some stops.BadHeader) lines other here some = other (λ h. absurd (cc h))
+none_counted {Same} (Some stops.ReadFault) lines other here some = ⊎_elim (λ (none : lines ≡ []). absurd (let long = ap length none in omega (arith, long, some))) (λ (same : Same). same) (here refl)

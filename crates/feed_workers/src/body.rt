@@ -2,7 +2,7 @@
 
 ghost use Rattle.std.specs.Prelude.{◌≡◌, ◌≢◌, ◌+◌, ◌<◌, [], List, Some, IsSome, IfNone, Option};
 ghost use Rattle.scan_types.specs.declared.limits.TheConstants.{MOST_FEEDS};
-ghost use Rattle.board_definitions.specs.declared.event.FeedStop.TheVariants.{ReadFault, NoMemory};
+ghost use Rattle.board_definitions.specs.declared.event.FeedStop.TheVariants.{ReadFault};
 ghost use Rattle.board_definitions.specs.Entries.{rule_of};
 ghost use Rattle.board_definitions.specs.Legal.{IsLegal};
 ghost use Rattle.feed_definitions.specs.declared.accepted.Accepted.{Accepted as AcceptedLine};
@@ -47,7 +47,7 @@ fn take_round<R: Wait, W: Law, S: Source + Drop>(
     ensures empty { IfNone result (lines.new.items ≡ []) }
     ensures counted { IfNone result (reader.old.answers < reader.new.answers) }
     ensures promised { S.never_fails reader.old.source → result ≢ Some ReadFault }
-    ensures no_fault { result ≢ Some ReadFault → result ≢ Some NoMemory → S.faults reader.new.source ≡ S.faults reader.old.source }
+    ensures no_fault { result ≢ Some ReadFault → S.faults reader.new.source ≡ S.faults reader.old.source }
     ensures goes_on { ReadsOn S.left S.faults S.later S.never_fails reader.old reader.new }
 {
     let stop = gather(lines, refusals, feed, reader);
@@ -79,7 +79,7 @@ fn read_on<R: Wait, W: Law, S: Source + Drop>(
     ensures of { IsPassOf lock.now pass.new }
     ensures later { IsLaterPass (known pass.old) (known pass.new) }
     ensures promised { S.never_fails reader.old.source → result ≢ ReadFault }
-    ensures no_fault { result ≢ ReadFault → result ≢ NoMemory → S.faults reader.new.source ≡ S.faults reader.old.source }
+    ensures no_fault { result ≢ ReadFault → S.faults reader.new.source ≡ S.faults reader.old.source }
     ensures goes_on { ReadsOn S.left S.faults S.later S.never_fails reader.old reader.new }
 {
     let mut lines = Vec::new(alloc);
@@ -118,7 +118,7 @@ pub fn feed_body<R: Wait, W: Law, S: Source + Drop>(
     ensures later { IsLaterPass (known pass) (known result.pass) }
     ensures legal { IsLegal (board_part lock.now).rules (W.allows (board_part lock.now).law) (known result.pass).seen }
     ensures promised { S.never_fails reader.source → result.end.stop ≢ ReadFault }
-    ensures no_fault { result.end.stop ≢ ReadFault → result.end.stop ≢ NoMemory → S.faults result.end.source ≡ S.faults reader.source }
+    ensures no_fault { result.end.stop ≢ ReadFault → S.faults result.end.source ≡ S.faults reader.source }
 {
     let mut pass = pass;
     let mut reader = reader;

@@ -1,10 +1,11 @@
 //! The lines of a feed that are in hand, gathered with no turn held.
 
-ghost use Rattle.std.specs.Prelude.{◌≡◌, ◌≢◌, ◌+◌, ◌<◌, ◌++◌, ◌∷◌, [], List, Some, OnOk, OnErr, IfNone, Option};
+ghost use Rattle.std.specs.Prelude.{◌≡◌, ◌≢◌, ◌⊎◌, ◌+◌, ◌<◌, ◌++◌, ◌∷◌, [], List, length, Some, IsSome, OnOk, OnErr, IfNone, Option};
 ghost use Rattle.scan_types.specs.declared.rule.VoidRule.{VoidRule};
 ghost use Rattle.board_definitions.specs.declared.event.FeedStop.TheVariants.{ReadFault};
 ghost use Rattle.feed_definitions.specs.declared.accepted.Accepted.{Accepted as AcceptedLine};
 ghost use Rattle.feed_definitions.specs.declared.header.Header.{Header};
+ghost use Rattle.feed_definitions.specs.Lines.{ended_lines};
 ghost use Rattle.feed_definitions.specs.Feed.{accepted_in};
 ghost use Rattle.desk_definitions.specs.Ends.{refused_in};
 ghost use Rattle.feed_bodies.specs.Bodies.{ReadsOn};
@@ -63,6 +64,8 @@ fn take_next<S: Source + Drop>(
     ensures counted { IfNone result (reader.new.answers ≡ reader.old.answers + 1) }
     ensures promised { S.never_fails reader.old.source → result ≢ Some ReadFault }
     ensures no_fault { result ≢ Some ReadFault → S.faults reader.new.source ≡ S.faults reader.old.source }
+    ensures no_read { reader.old.answers < length (ended_lines reader.old.taken) → S.faults reader.new.source ≡ S.faults reader.old.source }
+    ensures stopped { IsSome result → lines.new.items ≡ lines.old.items }
     ensures goes_on { ReadsOn S.left S.faults S.later S.never_fails reader.old reader.new }
 {
     match reader.next() {
@@ -92,6 +95,7 @@ pub(crate) fn gather<S: Source + Drop>(
     ensures counted { IfNone result (reader.old.answers < reader.new.answers) }
     ensures promised { S.never_fails reader.old.source → result ≢ Some ReadFault }
     ensures no_fault { result ≢ Some ReadFault → S.faults reader.new.source ≡ S.faults reader.old.source }
+    ensures before_a_read { result ≡ Some ReadFault → (lines.new.items ≡ lines.old.items) ⊎ (S.faults reader.new.source ≡ S.faults reader.old.source) }
     ensures goes_on { ReadsOn S.left S.faults S.later S.never_fails reader.old reader.new }
 {
     loop {

@@ -1,10 +1,10 @@
-use Rattle.std.proofs.Common.{◌≤◌, List, ◌++◌, length, take, sym, ap, subst, ◌∙◌, arith}
+use Rattle.std.proofs.Common.{◌≡◌, ◌≤◌, ◌<◌, inl, inr, ⊎_elim, List, ◌++◌, length, take, sym, ap, subst, ◌∙◌, arith}
 use Rattle.feed_definitions.specs.declared.accepted.Accepted.{Accepted}
 use Rattle.turn_lock.specs.Passes.{Known, known}
 use Rattle.quote_board.specs.Shared.{board_part}
 use Rattle.desk_definitions.specs.Lines.{entries_of}
 use Rattle.feed_workers.specs.Runs.{IsGathered}
-use Rattle.feed_workers.proofs.Rounds.{round_short, round_whole}
+use Rattle.feed_workers.proofs.Rounds.{round_short, round_whole, none_counted}
 use Rattle.feed_workers.proofs.body.take_round.Goals as goal
 
 pub returns-then-count-len-clause-round : goal.returns-then-count-len-clause-round
@@ -29,3 +29,11 @@ returns-clause-round g c =
     round_whole g.S.Source.left g.S.Source.faults c.args.feed (board_part c.args.lock.now).rules c.args.header.now c.requires.exists was.0 lines c.gather-stop.new.refusals c.gather-stop.new.reader
     (known c.args.pass.now).own (known c.put_lines-count.new.pass).own c.put_lines-count.result was.2 added many c.gather-stop.result
     (c.gather-stop.ensures.gathered (board_part c.args.lock.now).rules c.args.header.now was.0 start)
+
+pub returns-then-count-len-clause-no_fault : goal.returns-then-count-len-clause-no_fault
+returns-then-count-len-clause-no_fault g c = λ other.
+    let lines = c.gather-stop.new.lines.items in
+    let some : 0 < length lines = omega (arith, c.if-count-len.true, c.len.ensures) in
+    none_counted c.gather-stop.result lines c.gather-stop.ensures.no_fault
+    (λ fault. let hand = c.gather-stop.ensures.before_a_read fault in ⊎_elim (λ (same : lines ≡ c.args.lines.now.items). inl (same ∙ c.requires.empty)) (λ kept. inr kept) hand)
+    some

@@ -1,4 +1,4 @@
-use Rattle.std.proofs.Common.{◌≡◌, ◌+◌, ◌∙◌, arith}
+use Rattle.std.proofs.Common.{◌≡◌, ◌+◌, ◌∙◌, inr, arith}
 use Rattle.feed_bodies.proofs.Moments.{few_answers}
 use Rattle.feed_workers.proofs.Going.{goes_further}
 use Rattle.feed_workers.proofs.gathering.gather.Goals as goal
@@ -24,6 +24,7 @@ loop-stop-preserved g c =
     record {
       somewhere = (was.0, was.1, was.2, c.in_default.ensures.step was.0 was.1 was.2 was.3);
       between = λ rules_ header put start. c.in_default.ensures.step rules_ header put (kept.between rules_ header put start);
+      in_hand = inr (c.has_line.ensures.no_read c.if-not-has_line.false);
       more = omega (arith, more, counted);
       no_fault = c.in_default.ensures.no_fault (λ h. absurd (cc h)) ∙ kept.no_fault;
       goes_on = goes_further g.S.Source.left g.S.Source.faults g.S.Source.later g.S.Source.never_fails g.met.S.Source.later_transitive c.args.reader.now c.loop-stop.reader c.take_next.new.reader kept.goes_on c.in_default.ensures.goes_on;
