@@ -17,6 +17,8 @@ mod ends;
 mod judging;
 mod post;
 pub mod sheets;
+#[cfg(test)]
+mod tests;
 mod turns;
 
 pub use asking::ask;
