@@ -59,6 +59,13 @@ impl Cells {
         }
     }
 
+    /// The version of the last value that was added, and 0 if there was none. Constant time.
+    pub fn newest(&self) -> u64
+        ensures { result ≡ self.now.newest }
+    {
+        self.newest
+    }
+
     /// Adds the offer to the cell of the key, which holds it from this version on.
     ///
     /// One look-up of the match and one or two of the cell. After want of memory each cell is as before.

@@ -14,6 +14,8 @@ mod cells;
 mod key;
 mod match_cells;
 mod matches;
+#[cfg(test)]
+mod tests;
 mod value;
 
 pub use cells::Cells;
