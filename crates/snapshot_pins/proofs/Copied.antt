@@ -18,11 +18,7 @@ copy_more all old n x is within =
     let next : suc n ≡ n + 1 = omega arith in
     more all old n x is within ∙ ap (λ k. take k all ++ drop k old) next
 
--- all are copied that there are, or that fit
+-- all are copied that there are
 pub copied_all : (all old new : List Offer) (from count : ℕ) → count ≡ length (drop from all) → count ≤ length old →
     new ≡ take count (drop from all) ++ drop count old → IsCopied all from old new count
 copied_all all old new from count end_ within copied = record { count_is = omega (arith, end_, within, length-drop from all); copied = copied }
-
-pub copied_full : (all old new : List Offer) (from count : ℕ) → count ≡ length old → count < length (drop from all) →
-    new ≡ take count (drop from all) ++ drop count old → IsCopied all from old new count
-copied_full all old new from count full more copied = record { count_is = omega (arith, full, more, length-drop from all); copied = copied }

@@ -57,9 +57,6 @@ module _ {S : Type 0} (old new : IndexMap (List ℕ) (BTreeMap Slot Cell) S) (ne
     newest = refl;
   }
 
-  pub cells_same : ((m : List ℕ) (feed number : ℕ) → cell_on new m feed number ≡ cell_on old m feed number) → AreCells old newest → AreCells new newest
-  cells_same same cells m feed number = subst (IsCell newest feed number) (sym (same m feed number)) (cells m feed number)
-
   module _ (live : List ℕ) (drops : List ℕ → ℕ → ℕ → Bool)
       (h : (m : List ℕ) (feed number : ℕ) → cell_on new m feed number ≡ (if drops m feed number then kept live (cell_on old m feed number) else cell_on old m feed number)) where
     pub cells_kept : AreCells old newest → AreCells new newest

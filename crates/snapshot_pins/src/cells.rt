@@ -59,6 +59,13 @@ impl Cells {
         }
     }
 
+    /// The version of the last value that was added, and 0 if there was none. Constant time.
+    pub fn newest(&self) -> u64
+        ensures { result ≡ self.now.newest }
+    {
+        self.newest
+    }
+
     /// Adds the offer to the cell of the key, which holds it from this version on.
     ///
     /// One look-up of the match and one or two of the cell. After want of memory each cell is as before.
@@ -110,8 +117,9 @@ impl Cells {
     /// Copies the offers of the match at a version, from a place on, and returns how many: as many as there are and as fit. They rise
     /// by feed, and within a feed by the number of the selection; the place counts offers.
     ///
-    /// One look-up of the match. Steps over the cells before the last offer that it copies, and in each over the values that came
-    /// later than the version. Takes no memory.
+    /// One look-up of the match. Steps over the cells up to the last offer that it copies, and in each over the values that came later
+    /// than the version. Nothing is remembered between two calls, so the offers before the place are stepped over again: a sheet of 256
+    /// in 8 parts of 32 takes 1,152 steps over offers. Takes no memory.
     pub fn read_at(&self, match_name: &Name, version: u64, from: usize, out: &mut [Offer]) -> usize
         requires some { 1 ≤ length out.old }
         requires few { length out.old ≤ MOST_STANDING }
