@@ -14,3 +14,4 @@ pub mod Directions
 pub mod Limits
 pub mod Parts
 pub mod RightFindings
+pub mod SpentRuns

@@ -2,6 +2,7 @@ ghost use Rattle.std.specs.Prelude.{◌≡◌, ◌≤◌, IfOk};
 ghost use Rattle.scan_types.specs.declared.limits.TheConstants.{MOST_PIVOTS};
 ghost use Rattle.finding_definitions.specs.Findings.{IsVerdict, IsRight, IsRightVerdict};
 ghost use Rattle.judging_definitions.specs.ExactFinding.{IsFindingOf};
+ghost use Rattle.judging_laws.specs.SpentRuns.{MadeFewPivots};
 
 use crate::judging::exact_finding;
 use crate::law::FindingLaw;
@@ -63,6 +64,8 @@ pub fn judge(alloc: Global, bench: &mut Bench, sheet: &Sheet) -> Result<Finding,
     // So each verdict passes the separate checker, which says yes just of these.
     ensures passes_check { IfOk result (λ finding. IsVerdict finding → IsRightVerdict sheet.now finding) }
     ensures budget_stays { bench.new ≡ bench.old }
+    // So a budget of as many pivots as each program has bases is never used up.
+    ensures few_pivots { IfOk result (MadeFewPivots sheet.now) }
 {
     exact_finding(alloc, &mut bench.tableau, bench.law.budget, sheet)
 }

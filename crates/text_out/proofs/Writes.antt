@@ -8,7 +8,7 @@ use Rattle.std.proofs.lemmas.List.{take-append-le, length-append, append-nil, ta
 use Rattle.std.proofs.lemmas.Grind.{flat_map-append}
 use Rattle.std.proofs.Math.Seq.{take-append-add, take-suc}
 use Rattle.desk_io.specs.Sink.{AppendsPrefix}
-use Rattle.certificates.specs.Written.{Wrote, Gathered, spaced}
+use Rattle.text_out.specs.Written.{Wrote, Gathered, spaced}
 
 -- a front of the first of two texts is a front of both
 prefix_first : (a b : Option (List ℕ)) (x y : List ℕ) → AppendsPrefix a b x → AppendsPrefix a b (x ++ y)
@@ -39,6 +39,10 @@ and_then {a = a} {b = b} {c = c} {k = k} {l = l} {x = x} {y = y} {r = Err e} p q
     let (first, first_is, first_written) = p.gathered in
     let whole : first ++ (l ++ y) ≡ k ++ (x ++ y) = sym (append_assoc first l y) ∙ ap (λ (r : List ℕ). r ++ y) first_is ∙ append_assoc k x y in
     record { gathered = tt; cut_short = subst (AppendsPrefix a c) whole (prefix_second a b c first (l ++ y) first_written q.cut_short); failed = omega (arith, p.faults_kept, q.failed); no_fault = tt; faults_kept = omega (arith, p.faults_kept, q.faults_kept) }
+
+-- all that was held, and a text behind it, were written, and nothing is held
+pub all_out : {E : Type 0} {a b : Option (List ℕ)} {f g : ℕ} {k t x : List ℕ} {u : Unit {0}} → Wrote {E = E} a b f g t (Ok u) → t ≡ k ++ x → Gathered {E = E} a b f g k [] x (Ok u)
+all_out {t = t} p e = record { gathered = (t, append-nil t ∙ e, p.written); cut_short = tt; failed = tt; no_fault = p.no_fault; faults_kept = p.faults_kept }
 
 -- a text that was cut short, and another behind it
 pub cut : {E : Type 0} {a b : Option (List ℕ)} {f g : ℕ} {k l x : List ℕ} {e : E} → Gathered {E = E} a b f g k l x (Err e) → (y : List ℕ) (r : Result Unit E) → IsErr r → Gathered a b f g k l (x ++ y) r
