@@ -1,7 +1,7 @@
 -- The numbers of a sheet's programs are small.
-use Rattle.std.proofs.Common.{◌≡◌, ℕ, zero, suc, ◌*◌, ◌^◌, ◌<◌, ◌≤◌, true, false, cond, ◌==◌, ◌⊎◌, inl, inr, List, [], ◌∷◌, ◌++◌, length, map, refl, sym, subst, arith, eq-zero-or-pos}
+use Rattle.std.proofs.Common.{◌≡◌, ℕ, zero, suc, ◌+◌, ◌-◌, ◌*◌, ◌^◌, ◌<◌, ◌≤◌, true, false, cond, ◌==◌, ◌⊎◌, inl, inr, List, [], ◌∷◌, ◌++◌, length, map, refl, sym, subst, arith, eq-zero-or-pos}
 use Rattle.std.specs.Prelude.{slice_index_or, unsigned_abs, sum_by}
-use Rattle.std.specs.Int.{◌∣◌}
+use Rattle.std.specs.Int.{◌∣◌, div_ceil}
 use Rattle.std.specs.List.{All, flat_map, range_with_len}
 use Rattle.std.proofs.lemmas.Int.{ints}
 use Rattle.std.proofs.lemmas.List.Sums.{sum_by-cons}
@@ -24,10 +24,11 @@ use Rattle.settlement_definitions.specs.Abandonment.{leg_at}
 use Rattle.settlement_definitions.specs.Gain.{leg_gain, gain, slack_of_gain, slack}
 use Rattle.finding_definitions.specs.Arbitrage.{need}
 use Rattle.judging_definitions.specs.Columns.{offer_divisor, divided_gain}
+use Rattle.judging_definitions.specs.MostProgram.{most_win, above_all_wins}
 use Rattle.judging_definitions.specs.JudgingPrograms.{class_row, class_rows, limit_rows, homogeneous_program, limited_program}
 use Rattle.judging_laws.proofs.ProgramRows.{homogeneous_is_capped, limited_is_capped}
 use Rattle.coherence_lp.specs.declared.asked.Needs.{Needs}
-use Rattle.coherence_lp.specs.declared.asked.Needs.TheVariants.{Plain, Slack}
+use Rattle.coherence_lp.specs.declared.asked.Needs.TheVariants.{Plain, Slack, Most}
 use Rattle.coherence_lp.specs.Asked.{asked_for}
 use Rattle.coherence_lp.specs.ProgramTables.{divided_gains, divided_table}
 
@@ -138,9 +139,32 @@ slack_need_fits : (z : ℤ) (s : ℕ) → s ≤ 256000000 → (z ≡ pos 0) ⊎ 
 slack_need_fits z s h (inl e) = subst (λ y. FitsEntry (pos 2 *ℤ (pos 1000 *ℤ y +ℤ pos s))) (sym e) (omega (arith, ints))
 slack_need_fits z s h (inr e) = subst (λ y. FitsEntry (pos 2 *ℤ (pos 1000 *ℤ y +ℤ pos s))) (sym e) (omega (arith, ints))
 
+rounded_small : (n : ℕ) → n ≤ 100000000 * 999000 → div_ceil n 1000 ≤ 100000000000
+rounded_small n h = omega (arith, h)
+
+most_win_small : (offer : Offer) → most_win offer ≤ 100000000000
+most_win_small offer =
+    let profit = offer.odds.thousandths - 1000 in
+    let more : profit ≤ 999000 = omega (arith, offer.odds.at_most) in
+    let product : offer.limit * profit ≤ 100000000 * 999000 = mul-le-mul offer.limit_at_most more in
+    rounded_small (offer.limit * profit) product
+
+pub wins_small : (offers : List Offer) → above_all_wins offers ≤ 1 + length offers * 100000000000
+wins_small [] = omega arith
+wins_small (offer ∷ offers) =
+    let e = sum_by-cons most_win offer offers in
+    let rest = wins_small offers in
+    let here = most_win_small offer in
+    omega (arith, e, rest, here)
+
+most_need_fits : (z : ℤ) (u : ℕ) → u ≤ 30000000000000 → (z ≡ pos 0) ⊎ (z ≡ pos 1) → FitsEntry (pos (2000 * u) *ℤ z)
+most_need_fits z u h (inl e) = subst (λ y. FitsEntry (pos (2000 * u) *ℤ y)) (sym e) (omega (arith, ints))
+most_need_fits z u h (inr e) = subst (λ y. FitsEntry (pos (2000 * u) *ℤ y)) (sym e) (omega (arith, ints))
+
 pub asked_fits : (needs : Needs) (offers : List Offer) (x : Outcome) → length offers ≤ 256 → FitsEntry (asked_for needs offers x)
 asked_fits Plain offers x few = elim (need_one x) [ inl e ↦ subst (λ y. FitsEntry (pos 2000 *ℤ y)) (sym e) (omega (arith, ints)) | inr e ↦ subst (λ y. FitsEntry (pos 2000 *ℤ y)) (sym e) (omega (arith, ints)) ]
 asked_fits Slack offers x few = slack_need_fits (need x) (sum_by (λ offer. slack offer x) offers) (omega (arith, few, slacks_small offers x)) (need_one x)
+asked_fits Most offers x few = most_need_fits (need x) (above_all_wins offers) (omega (arith, few, wins_small offers)) (need_one x)
 
 -- ---- programs
 

@@ -1,5 +1,6 @@
 pub mod Columns
 pub mod JudgingPrograms
+pub mod MostProgram
 pub mod Stakes
 pub mod Readings
 pub mod ExactFinding

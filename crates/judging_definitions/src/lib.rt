@@ -3,6 +3,7 @@
 //!
 //! - `Columns`: gains at the classes of a sheet, the divisor of an offer, and the offers that lead.
 //! - `JudgingPrograms`: the program without limits, over the leading offers, and the program with limits, over all.
+//! - `MostProgram`: what the program for the best stakes asks for.
 //! - `Stakes`: fractional stakes, their common denominator, and stakes rounded down.
 //! - `Readings`: the level, the measure, the direction and the parts, and where a number is too wide for them.
 //! - `ExactFinding`: the finding in six steps.

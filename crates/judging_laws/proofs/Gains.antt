@@ -195,8 +195,9 @@ sum_factor : (n : ℕ) (a : ℤ) (f : ℕ → ℤ) → sum_below n (λ k. a *ℤ
 sum_factor zero a f = sym (times_zero a)
 sum_factor (suc n) a f = ap (λ z. z +ℤ a *ℤ f n) (sum_factor n a f) ∙ factor_step a (sum_below n f) (f n)
 
-reach_step : (classes : List Outcome) (offers : List Offer) (p : ℕ × Offer → Bool) (asked : Outcome → ℤ) (program : LinearProgram) (tableau : SimplexTableau) (facts : BestFacts program tableau) (d j : ℕ) (x : Outcome) (o : Offer) → IsReached program tableau → HasClassRows classes (map (λ (pair : ℕ × Offer). pair.1) (filter p (enumerate_from 0 offers))) asked program → facts.point 0 ≡ facts.times → MakesWhole d (fractional_stakes classes offers (numbers_of (filter p (enumerate_from 0 offers))) tableau) → j < length classes → (pos d *ℤ asked (slice_index_or classes j x)) ≤ℤ total_gain offers (multiples d (fractional_stakes classes offers (numbers_of (filter p (enumerate_from 0 offers))) tableau)) (slice_index_or classes j x)
-reach_step classes offers p asked program tableau facts d j x o reached rows level whole within =
+-- what stakes gain at a class is at least what is asked for there, times the level
+reach_level : (classes : List Outcome) (offers : List Offer) (p : ℕ × Offer → Bool) (asked : Outcome → ℤ) (program : LinearProgram) (tableau : SimplexTableau) (facts : BestFacts program tableau) (d j : ℕ) (x : Outcome) (o : Offer) → IsReached program tableau → HasClassRows classes (map (λ (pair : ℕ × Offer). pair.1) (filter p (enumerate_from 0 offers))) asked program → MakesWhole d (fractional_stakes classes offers (numbers_of (filter p (enumerate_from 0 offers))) tableau) → j < length classes → (pos d *ℤ (asked (slice_index_or classes j x) *ℤ facts.point 0)) ≤ℤ (facts.times *ℤ total_gain offers (multiples d (fractional_stakes classes offers (numbers_of (filter p (enumerate_from 0 offers))) tableau)) (slice_index_or classes j x))
+reach_level classes offers p asked program tableau facts d j x o reached rows whole within =
     let kept = filter p (enumerate_from 0 offers) in
     let columns = map (λ (pair : ℕ × Offer). pair.1) kept in
     let c = slice_index_or classes j x in
@@ -211,9 +212,16 @@ reach_step classes offers p asked program tableau facts d j x o reached rows lev
     ∙ sum_same (length kept) (λ k. facts.point (suc k) *ℤ divided_gain classes (slice_index_or columns k o) c) (λ k. facts.point (suc k) *ℤ divided_gain classes (slice_index_or kept k (0, o)).1 c) (λ k h. ap (λ offer. facts.point (suc k) *ℤ divided_gain classes offer c) (get_or-map (λ (pair : ℕ × Offer). pair.1) kept k (0, o) o h)) in
     let scaled : sum_below (length kept) (λ k. pos d *ℤ (facts.point (suc k) *ℤ divided_gain classes (slice_index_or kept k (0, o)).1 c)) ≡ pos d *ℤ gains = sum_factor (length kept) (pos d) (λ k. facts.point (suc k) *ℤ divided_gain classes (slice_index_or kept k (0, o)).1 c) in
     let bound = times_at_most (pos d) (asked c *ℤ facts.point 0) gains (omega (arith, ints)) (omega (arith, linear, rowed, same_out _ _ same)) in
+    omega (arith, linear, bound, same_out _ _ gained, same_out _ _ scaled)
+
+reach_step : (classes : List Outcome) (offers : List Offer) (p : ℕ × Offer → Bool) (asked : Outcome → ℤ) (program : LinearProgram) (tableau : SimplexTableau) (facts : BestFacts program tableau) (d j : ℕ) (x : Outcome) (o : Offer) → IsReached program tableau → HasClassRows classes (map (λ (pair : ℕ × Offer). pair.1) (filter p (enumerate_from 0 offers))) asked program → facts.point 0 ≡ facts.times → MakesWhole d (fractional_stakes classes offers (numbers_of (filter p (enumerate_from 0 offers))) tableau) → j < length classes → (pos d *ℤ asked (slice_index_or classes j x)) ≤ℤ total_gain offers (multiples d (fractional_stakes classes offers (numbers_of (filter p (enumerate_from 0 offers))) tableau)) (slice_index_or classes j x)
+reach_step classes offers p asked program tableau facts d j x o reached rows level whole within =
+    let kept = filter p (enumerate_from 0 offers) in
+    let c = slice_index_or classes j x in
+    let t = facts.times in
+    let bound = reach_level classes offers p asked program tableau facts d j x o reached rows whole within in
     let moved : pos d *ℤ (asked c *ℤ facts.point 0) ≡ t *ℤ (pos d *ℤ asked c) = ap (λ z. pos d *ℤ (asked c *ℤ z)) level ∙ move_times (pos d) t (asked c) in
-    at_most_from_product t (pos d *ℤ asked c) (total_gain offers (multiples d (fractional_stakes classes offers (numbers_of kept) tableau)) c) facts.solution.positive
-    (omega (arith, linear, bound, same_out _ _ moved, same_out _ _ gained, same_out _ _ scaled))
+    at_most_from_product t (pos d *ℤ asked c) (total_gain offers (multiples d (fractional_stakes classes offers (numbers_of kept) tableau)) c) facts.solution.positive (omega (arith, linear, bound, same_out _ _ moved))
 
 -- at level 1 the stakes, times a number that makes them whole, gain at each class as many times what is asked for there
 pub stakes_reach : (classes : List Outcome) (offers : List Offer) (numbers : List ℕ) (columns : List Offer) (asked : Outcome → ℤ) (program : LinearProgram) (tableau : SimplexTableau) (facts : BestFacts program tableau) (d j : ℕ) (x : Outcome) (o : Offer) → AreColumns offers numbers columns → IsReached program tableau → HasClassRows classes columns asked program → HasLevelOne tableau → MakesWhole d (fractional_stakes classes offers numbers tableau) → j < length classes → (pos d *ℤ asked (slice_index_or classes j x)) ≤ℤ total_gain offers (multiples d (fractional_stakes classes offers numbers tableau)) (slice_index_or classes j x)
@@ -223,4 +231,12 @@ stakes_reach classes offers numbers columns asked program tableau facts d j x o 
     let level = level_is_one tableau facts.times (facts.point 0) (value_facts program tableau reached facts.times facts.point facts.solution 0 (omega (arith, rows.columns))) one in
     subst (λ ns. (pos d *ℤ asked c) ≤ℤ total_gain offers (multiples d (fractional_stakes classes offers ns tableau)) c) are.numbers_are
     (reach_step classes offers are.test asked program tableau facts d j x o reached (subst (λ cs. HasClassRows classes cs asked program) (sym are.columns_are) rows) level
+    (subst (λ ns. MakesWhole d (fractional_stakes classes offers ns tableau)) (sym are.numbers_are) whole) within)
+
+-- at any level the stakes, times a number that makes them whole, gain at each class as many times what is asked for there, times the level
+pub stakes_reach_level : (classes : List Outcome) (offers : List Offer) (numbers : List ℕ) (columns : List Offer) (asked : Outcome → ℤ) (program : LinearProgram) (tableau : SimplexTableau) (facts : BestFacts program tableau) (d j : ℕ) (x : Outcome) (o : Offer) → AreColumns offers numbers columns → IsReached program tableau → HasClassRows classes columns asked program → MakesWhole d (fractional_stakes classes offers numbers tableau) → j < length classes → (pos d *ℤ (asked (slice_index_or classes j x) *ℤ facts.point 0)) ≤ℤ (facts.times *ℤ total_gain offers (multiples d (fractional_stakes classes offers numbers tableau)) (slice_index_or classes j x))
+stakes_reach_level classes offers numbers columns asked program tableau facts d j x o are reached rows whole within =
+    let c = slice_index_or classes j x in
+    subst (λ ns. (pos d *ℤ (asked c *ℤ facts.point 0)) ≤ℤ (facts.times *ℤ total_gain offers (multiples d (fractional_stakes classes offers ns tableau)) c)) are.numbers_are
+    (reach_level classes offers are.test asked program tableau facts d j x o reached (subst (λ cs. HasClassRows classes cs asked program) (sym are.columns_are) rows)
     (subst (λ ns. MakesWhole d (fractional_stakes classes offers ns tableau)) (sym are.numbers_are) whole) within)

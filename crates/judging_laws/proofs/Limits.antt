@@ -24,7 +24,7 @@ use Rattle.judging_definitions.specs.JudgingPrograms.{limited_program}
 use Rattle.judging_definitions.specs.Readings.{HasLevelOne, class_weights, weighted_classes}
 use Rattle.judging_laws.proofs.ProgramRows.{limited_classes, limited_cap, limited_limits}
 use Rattle.judging_laws.proofs.Weights.{sum_front, weight_divisor, weighted_is}
-use Rattle.judging_laws.proofs.Levels.{best_facts, no_cap}
+use Rattle.judging_laws.proofs.Levels.{BestFacts, best_facts, no_cap}
 use Rattle.judging_laws.proofs.Means.{by_multipliers, class_part, level_part, gains_by_divisor}
 use Rattle.judging_laws.proofs.Coherence.{any_outcome, level_below, rows_out, times_zero_out, divisor_stands}
 use Rattle.judging_laws.proofs.Directions.{any_offer}
@@ -64,12 +64,14 @@ reach_bound g divisor measure (offer ∷ offers) y each o =
     omega (arith, linear, rest, most, same_out _ _ moved, same_out _ _ product, same_out _ _ front, same_out _ _ split)
 
 -- what the multipliers say below level 1 of a program with limits
-record BelowLimits (classes : List Outcome) (offers : List Offer) (asked : Outcome → ℤ) (tableau : SimplexTableau) : Type 0 where
+record BelowLimits (classes : List Outcome) (offers : List Offer) (asked : Outcome → ℤ) (tableau : SimplexTableau) (facts : BestFacts (limited_program classes offers asked) tableau) : Type 0 where
   not_negative : (j : ℕ) → j < length classes → pos 0 ≤ℤ multiplier_of tableau j
   limit_multiplier : ℕ → ℤ
   limits : (i : ℕ) (o : Offer) → i < length offers → (pos 0 ≤ℤ limit_multiplier i) × (by_multipliers classes tableau (gain (slice_index_or offers i o)) any_outcome ≤ℤ (pos (offer_divisor classes (slice_index_or offers i o)) *ℤ limit_multiplier i))
   bound : sum_below (length offers) (λ i. limit_multiplier i *ℤ pos ((slice_index_or offers i any_offer).limit * offer_divisor classes (slice_index_or offers i any_offer))) <ℤ by_multipliers classes tableau asked any_outcome
   asked_stands : pos 0 <ℤ by_multipliers classes tableau asked any_outcome
+  enough : facts.scale ≤ℤ by_multipliers classes tableau asked any_outcome
+  level : facts.scale *ℤ facts.point 0 ≡ facts.times *ℤ sum_below (length offers) (λ i. limit_multiplier i *ℤ pos ((slice_index_or offers i any_offer).limit * offer_divisor classes (slice_index_or offers i any_offer)))
 
 -- a sum over the rows of classes and limits
 rows_split : (program : LinearProgram) (m n c : ℕ) (f : ℕ → ℤ) → program.rows ≡ suc (m + n) → f (m + n) ≡ pos 0 → column_sum program f c ≡ sum_below m (λ r. f r *ℤ coefficient program r c) +ℤ sum_below n (λ i. f (m + i) *ℤ coefficient program (m + i) c)
@@ -81,10 +83,9 @@ turned a b = rw (dif_is a, dif_is b) (simp difs (dif_same _ _ _ _ (omega arith))
 same_suc : (k i : ℕ) → suc i ≡ suc k → k ≡ i
 same_suc k i e = omega (arith, e)
 
-below_limits : (classes : List Outcome) (offers : List Offer) (asked : Outcome → ℤ) (tableau : SimplexTableau) → IsReached (limited_program classes offers asked) tableau → IsBest tableau → (HasLevelOne tableau → ⊥) → BelowLimits classes offers asked tableau
-below_limits classes offers asked tableau reached best below =
+below_limits : (classes : List Outcome) (offers : List Offer) (asked : Outcome → ℤ) (tableau : SimplexTableau) → IsReached (limited_program classes offers asked) tableau → (facts : BestFacts (limited_program classes offers asked) tableau) → (HasLevelOne tableau → ⊥) → BelowLimits classes offers asked tableau facts
+below_limits classes offers asked tableau reached facts below =
     let program = limited_program classes offers asked in
-    let facts = best_facts program tableau reached best in
     let capped = limited_cap classes offers asked in
     let rows = limited_classes classes offers asked in
     let limits = limited_limits classes offers asked in
@@ -125,13 +126,15 @@ below_limits classes offers asked tableau reached best below =
           (y_positive i h, omega (arith, linear, product, same_out _ _ (gains_by_divisor classes tableau offer any_outcome))));
       bound = below_from_product facts.times total asked_sum facts.solution.positive (omega (arith, linear, same_out _ _ level, smaller, larger, same_out _ _ turn));
       asked_stands = (let p = facts.bounds.positive in omega (arith, linear, p, enough));
+      enough = enough;
+      level = level;
     }
 
 -- below level 1 of a program with limits, stakes within the limits win less by the measure than it asks for
 pub below_what_is_asked : (offers : List Offer) (asked : Outcome → ℤ) (tableau : SimplexTableau) → IsReached (limited_program (classes_of offers) offers asked) tableau → IsBest tableau → (HasLevelOne tableau → ⊥) → (reach offers (weighted_classes (classes_of offers) (class_weights (classes_of offers) tableau)) <ℤ weighted_sum asked (weighted_classes (classes_of offers) (class_weights (classes_of offers) tableau))) × (pos 0 <ℤ weighted_sum asked (weighted_classes (classes_of offers) (class_weights (classes_of offers) tableau)))
 below_what_is_asked offers asked tableau reached best below =
     let classes = classes_of offers in
-    let facts = below_limits classes offers asked tableau reached best below in
+    let facts = below_limits classes offers asked tableau reached (best_facts (limited_program classes offers asked) tableau reached best) below in
     let measure = weighted_classes classes (class_weights classes tableau) in
     let g = weight_divisor classes tableau in
     let sum = weighted_is asked classes tableau any_outcome facts.not_negative in
@@ -141,3 +144,32 @@ below_what_is_asked offers asked tableau reached best below =
       below_from_product (pos g) (reach offers measure) (weighted_sum asked measure) positive (omega (arith, linear, most, facts.bound, same_out _ _ sum)),
       positive_from_product (pos g) (weighted_sum asked measure) positive (subst (λ z. pos 0 <ℤ z) (sym sum) facts.asked_stands),
     )
+
+-- below level 1 of a program with limits: what stakes can reach by the measure, and what it asks for, against the level
+pub record LevelBounds (offers : List Offer) (asked : Outcome → ℤ) (tableau : SimplexTableau) (scale times level : ℤ) : Type 0 where
+  pub divisor : ℕ
+  pub divisor_positive : pos 0 <ℤ pos divisor
+  pub total : ℤ
+  pub most : (pos divisor *ℤ reach offers (weighted_classes (classes_of offers) (class_weights (classes_of offers) tableau))) ≤ℤ total
+  pub enough : scale ≤ℤ (pos divisor *ℤ weighted_sum asked (weighted_classes (classes_of offers) (class_weights (classes_of offers) tableau)))
+  pub ties : scale *ℤ level ≡ times *ℤ total
+  pub asked_stands : pos 0 <ℤ weighted_sum asked (weighted_classes (classes_of offers) (class_weights (classes_of offers) tableau))
+
+pub level_bounds : (offers : List Offer) (asked : Outcome → ℤ) (tableau : SimplexTableau) → IsReached (limited_program (classes_of offers) offers asked) tableau → (facts : BestFacts (limited_program (classes_of offers) offers asked) tableau) → (HasLevelOne tableau → ⊥) → LevelBounds offers asked tableau facts.scale facts.times (facts.point 0)
+level_bounds offers asked tableau reached best below =
+    let classes = classes_of offers in
+    let facts = below_limits classes offers asked tableau reached best below in
+    let measure = weighted_classes classes (class_weights classes tableau) in
+    let g = weight_divisor classes tableau in
+    let sum = weighted_is asked classes tableau any_outcome facts.not_negative in
+    let positive = divisor_stands g (weighted_sum asked measure) _ sum facts.asked_stands in
+    record {
+      divisor = g;
+      divisor_positive = positive;
+      total = sum_below (length offers) (λ i. facts.limit_multiplier i *ℤ pos ((slice_index_or offers i any_offer).limit * offer_divisor classes (slice_index_or offers i any_offer)));
+      most = reach_bound (pos g) (offer_divisor classes) measure offers facts.limit_multiplier
+          (λ i o h. let l = facts.limits i o h in (l.0, (let gained = weighted_is (gain (slice_index_or offers i o)) classes tableau any_outcome facts.not_negative in omega (arith, linear, l.1, same_out _ _ gained)))) any_offer;
+      enough = (let e = facts.enough in omega (arith, linear, e, same_out _ _ sum));
+      ties = facts.level;
+      asked_stands = positive_from_product (pos g) (weighted_sum asked measure) positive (subst (λ z. pos 0 <ℤ z) (sym sum) facts.asked_stands);
+    }

@@ -1,0 +1,4 @@
+pub mod LevelBelowOne
+pub mod LeastGains
+pub mod Squeeze
+pub mod RightBest
