@@ -12,7 +12,7 @@ ghost use Rattle.desk_definitions.specs.Causes.{AreGoodFeeds, EndsWithout, HasFa
 use crate::run::run;
 use desk_definitions::DeskEnd;
 use desk_io::{Opener, Sink};
-use desk_runs::{good_feeds_are_done, statuses_have_causes};
+use desk_laws::{good_feeds_are_done, statuses_have_causes};
 use std::alloc::Global;
 
 /// Opens the feeds of these names, reads them one after another, each to its end or to what stops it before, judges each match that is

@@ -11,13 +11,13 @@ ghost use Rattle.desk_definitions.specs.Seen.{opener_seen, sink_seen, IsWritten}
 ghost use Rattle.desk_definitions.specs.Opening.{FailsAt, LacksSource, told_bytes};
 ghost use Rattle.desk_definitions.specs.Course.{IsUnbegun, WritesNothing};
 ghost use Rattle.desk_definitions.specs.Causes.{AreGoodFeeds, EndsWithout, HasFailedRead, HasNoFault, HaveRun, HaveTwins, IsOrYields, IsReported, NoneStops, SomeStop};
-ghost use Rattle.desk_runs.specs.Histories.{HasWholeHistory};
+ghost use Rattle.desk_laws.specs.Histories.{HasWholeHistory};
 ghost use Rattle.scan_desk.specs.Desk.{AsksOnce, IsDeskCourse};
 
 use desk_definitions::DeskEnd;
 use desk_io::{Opener, Sink, Source};
 use desk_once::once;
-use desk_runs::{bodies_are_in_the_history, statuses_have_causes};
+use desk_laws::{bodies_are_in_the_history, statuses_have_causes};
 use desk_texts::status::{NO_COMMAND, WANT_OF_MEMORY};
 use desk_texts::write_text;
 use desk_words::laws::no_command_has_a_cause;

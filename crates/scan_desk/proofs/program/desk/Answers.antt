@@ -5,7 +5,7 @@ use Rattle.desk_words.specs.Commands.{command_of}
 use Rattle.desk_definitions.specs.Opening.{LacksSource, told_bytes}
 use Rattle.desk_definitions.specs.Causes.{AreGoodFeeds, HaveRun, HaveTwins}
 use Rattle.desk_definitions.specs.Course.{Outcome}
-use Rattle.desk_runs.specs.Histories.{HasWholeHistory}
+use Rattle.desk_laws.specs.Histories.{HasWholeHistory}
 use Rattle.scan_desk.proofs.Commands.{same_pivots, course_of_once, course_of_none, course_without_memory, same_feeds, asks_nothing}
 use Rattle.scan_desk.proofs.program.desk.Goals as goal
 

@@ -3,7 +3,7 @@
 ghost use Rattle.std.specs.Prelude.{ℕ, List};
 ghost use Rattle.desk_definitions.specs.Seen.{opener_seen, sink_seen};
 ghost use Rattle.desk_definitions.specs.Course.{Outcome, IsCourse};
-ghost use Rattle.desk_runs.specs.Runs.{HasCauses};
+ghost use Rattle.desk_laws.specs.Runs.{HasCauses};
 
 use desk_io::{Opener, Sink};
 

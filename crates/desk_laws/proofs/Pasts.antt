@@ -33,8 +33,8 @@ use Rattle.desk_definitions.specs.declared.status.TheConstants.{WANT_OF_MEMORY}
 use Rattle.desk_definitions.specs.Opening.{told_bytes}
 use Rattle.desk_definitions.specs.Causes.{HaveRun}
 use Rattle.desk_definitions.specs.Seen.{OpenerSeen, SinkSeen, Due}
-use Rattle.desk_runs.proofs.Ends.{has_header, no_twins}
-use Rattle.desk_runs.specs.Histories.{is_by, IsFiledRight, IsFiledAfter, HasWholeHistory}
+use Rattle.desk_laws.proofs.Ends.{has_header, no_twins}
+use Rattle.desk_laws.specs.Histories.{is_by, IsFiledRight, IsFiledAfter, HasWholeHistory}
 
 -- a match with what was found of its sheet, and the entries of that
 record Judged : Type 0 where

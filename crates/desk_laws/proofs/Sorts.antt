@@ -15,8 +15,8 @@ use Rattle.desk_definitions.specs.Seen.{OpenerSeen, SinkSeen, Due}
 use Rattle.desk_definitions.specs.Opening.{told_bytes, HasSources, LacksSource}
 use Rattle.desk_definitions.specs.Course.{Outcome, IsUnbegun, IsDueForHeader, IsDue, IsCourse, WritesNothing, HasNoHeader}
 use Rattle.desk_definitions.specs.Causes.{IsOrYields, HaveRun, SomeStop, NoneStops, HasFailedRead, EndsWithout, HaveTwins, IsReported}
-use Rattle.desk_runs.specs.Runs.{HasFailedOpening, HasCauses}
-use Rattle.desk_runs.proofs.Ends.{has_header, not_nothing, one_stop, no_twins, fault_found, cut_found, no_fault_found, StatusSays, Fault, Limit, Whole, status_says, all_ended, none_stops, counted_fault, last_fault, begun_headers, begun_not_failed, none_more}
+use Rattle.desk_laws.specs.Runs.{HasFailedOpening, HasCauses}
+use Rattle.desk_laws.proofs.Ends.{has_header, not_nothing, one_stop, no_twins, fault_found, cut_found, no_fault_found, StatusSays, Fault, Limit, Whole, status_says, all_ended, none_stops, counted_fault, last_fault, begun_headers, begun_not_failed, none_more}
 
 -- a name stands once more among all names than among those before it
 times_more : (name other : List ℕ) (earlier : List (List ℕ)) → times other (earlier ++ name ∷ []) ≡ times other earlier + cond (bytes_eq name other) 1 0

@@ -1,6 +1,6 @@
 use Rattle.desk_definitions.specs.Seen.{opener_seen, sink_seen}
-use Rattle.desk_runs.proofs.GoodFeeds.{complete}
-use Rattle.desk_runs.proofs.complete.good_feeds_are_done.Goals as goal
+use Rattle.desk_laws.proofs.GoodFeeds.{complete}
+use Rattle.desk_laws.proofs.complete.good_feeds_are_done.Goals as goal
 
 pub returns : goal.returns
 returns g c = λ names budget status before after sink_before sink_after out course good none.

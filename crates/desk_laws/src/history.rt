@@ -6,7 +6,7 @@ ghost use Rattle.desk_definitions.specs.Seen.{opener_seen, sink_seen};
 ghost use Rattle.desk_definitions.specs.Opening.{told_bytes};
 ghost use Rattle.desk_definitions.specs.Course.{Outcome, IsCourse};
 ghost use Rattle.desk_definitions.specs.Causes.{HaveRun};
-ghost use Rattle.desk_runs.specs.Histories.{HasWholeHistory};
+ghost use Rattle.desk_laws.specs.Histories.{HasWholeHistory};
 
 use desk_io::{Opener, Sink};
 use judging_laws::laws::findings_are_right;

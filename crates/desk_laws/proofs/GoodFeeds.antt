@@ -15,8 +15,8 @@ use Rattle.desk_definitions.specs.Ends.{header_in, IsStopOf, IsReadSo}
 use Rattle.desk_definitions.specs.Reads.{FeedRead, AreReadSo, IsBegun, AreBegun, book_of}
 use Rattle.desk_definitions.specs.Course.{Outcome, IsDueForHeader, IsCourse, HasNoHeader, HaveOneBook}
 use Rattle.desk_definitions.specs.Causes.{HasNoFault, HasFailedRead, SomeStop, IsGoodText, HaveTexts, AreGoodFeeds}
-use Rattle.desk_runs.proofs.Ends.{StatusSays, Fault, Limit, Whole, status_says, counted_fault, last_fault}
-use Rattle.desk_runs.proofs.Texts.{not_cut, not_malformed, own_header, IsFront, front_of, clear_of}
+use Rattle.desk_laws.proofs.Ends.{StatusSays, Fault, Limit, Whole, status_says, counted_fault, last_fault}
+use Rattle.desk_laws.proofs.Texts.{not_cut, not_malformed, own_header, IsFront, front_of, clear_of}
 
 -- the text that is told of a feed
 told_at : (told : ℕ → Option (List ℕ)) (number : ℕ) (texts : List (List ℕ)) (k : ℕ) → k < length texts → HaveTexts told number texts → told (number + k) ≡ Some (get_or texts k [])

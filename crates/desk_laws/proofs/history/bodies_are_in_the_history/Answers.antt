@@ -1,6 +1,6 @@
 use Rattle.desk_definitions.specs.Seen.{opener_seen, sink_seen}
-use Rattle.desk_runs.proofs.Pasts.{history_of}
-use Rattle.desk_runs.proofs.history.bodies_are_in_the_history.Goals as goal
+use Rattle.desk_laws.proofs.Pasts.{history_of}
+use Rattle.desk_laws.proofs.history.bodies_are_in_the_history.Goals as goal
 
 pub returns : goal.returns
 returns g c = λ names budget status before after sink_before sink_after out course run memory.

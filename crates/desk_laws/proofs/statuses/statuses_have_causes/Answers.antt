@@ -1,6 +1,6 @@
 use Rattle.desk_definitions.specs.Seen.{opener_seen, sink_seen}
-use Rattle.desk_runs.proofs.Sorts.{causes}
-use Rattle.desk_runs.proofs.statuses.statuses_have_causes.Goals as goal
+use Rattle.desk_laws.proofs.Sorts.{causes}
+use Rattle.desk_laws.proofs.statuses.statuses_have_causes.Goals as goal
 
 pub returns : goal.returns
 returns g c = λ names budget status before after sink_before sink_after out course.
