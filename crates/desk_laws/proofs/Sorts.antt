@@ -14,8 +14,8 @@ use Rattle.desk_definitions.specs.declared.status.TheConstants.{DONE, NOT_OPENED
 use Rattle.desk_definitions.specs.Seen.{OpenerSeen, SinkSeen, Due}
 use Rattle.desk_definitions.specs.Opening.{told_bytes, HasSources, LacksSource}
 use Rattle.desk_definitions.specs.Course.{Outcome, IsUnbegun, IsDueForHeader, IsDue, IsCourse, WritesNothing, HasNoHeader}
-use Rattle.desk_definitions.specs.Causes.{IsOrYields, HaveRun, SomeStop, NoneStops, HasFailedRead, EndsWithout, HaveTwins, IsReported}
-use Rattle.desk_laws.specs.Runs.{HasFailedOpening, HasCauses}
+use Rattle.desk_definitions.specs.Causes.{IsOrYields, HaveRun, SomeStop, NoneStops, HasFailedRead, HasFailedOpening, HasCauses, AreCounted, EndsWithout, HaveTwins, IsReported}
+use Rattle.desk_laws.proofs.GoodFeeds.{complete}
 use Rattle.desk_laws.proofs.Ends.{has_header, not_nothing, one_stop, no_twins, fault_found, cut_found, no_fault_found, StatusSays, Fault, Limit, Whole, status_says, all_ended, none_stops, counted_fault, last_fault, begun_headers, begun_not_failed, none_more}
 
 -- a name stands once more among all names than among those before it
@@ -257,9 +257,13 @@ module _ {S : Type 0} (left : S → Option (List ℕ)) (faults : S → ℕ) (nam
     opener_by (inr (seven, nothing, inl off)) = inl off.2.no_fault
     opener_by (inr (seven, nothing, inr (opens, off))) = inl opens.no_fault
 
-    pub causes : IsCourse left faults names budget opener out status sink → HasCauses left faults names budget opener out status sink
-    causes course = record {
+    pub causes : IsCourse left faults names budget opener out status sink → AreCounted faults out.ends → (opener.promises → status ≢ NOT_READ)
+        → HasCauses left faults names budget opener out status sink
+    causes course counted promised = record {
       done = done_by course;
+      complete = complete left faults names budget opener out status sink course;
+      read_as_promised = promised;
+      source_faults = counted;
       not_opened = λ e. opened_by out.ends status e (sort_of course (λ f. omega (arith, e, f)) (λ f. omega (arith, e, f)));
       not_opened_due = λ k lt lacks. lacks_due k lt lacks course;
       none_begun = λ k lt lacks. none_begun_by k lt lacks course;

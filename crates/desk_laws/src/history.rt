@@ -15,7 +15,7 @@ use judging_laws::laws::findings_are_right;
 /// and in order; each filed finding is right for what stood on its match; and each match has a finding filed after its last change.
 pub fn bodies_are_in_the_history<O: Opener, K: Sink>()
     ensures { (names : List (List ℕ)) (budget status : ℕ) (before after : O) (sink_before sink_after : K) (out : Outcome O.S) →
-        IsCourse O.S.left O.S.faults names budget (opener_seen O.told O.opens_told O.faults before after) out status (sink_seen K.written K.faults sink_before sink_after) →
+        IsCourse O.S.left O.S.faults names budget (opener_seen O.told O.promises O.opens_told O.faults before after) out status (sink_seen K.written K.faults sink_before sink_after) →
         HaveRun (length names) out.ends → status ≢ WANT_OF_MEMORY →
         HasWholeHistory O.S.left O.S.faults (told_bytes (O.told before) names) (length names) budget out }
 {
