@@ -26,6 +26,21 @@ pub record Outcome (S : Type 0) : Type 0 where
   pub ends : List (FeedEnd S)
   pub history : List Entry
 
+-- what a command hands out: its status alone, or, of a command that reads feeds, their ends and the history too
+pub data Handed (S : Type 0) : Type 0 where
+  StatusAlone : Handed S
+  OfFeeds : Outcome S → Handed S
+
+-- the ends of feeds among it
+abbrev pub ends_of : {S : Type 0} → Handed S → List (FeedEnd S)
+ends_of StatusAlone = []
+ends_of (OfFeeds out) = out.ends
+
+-- the history among it
+abbrev pub history_of : {S : Type 0} → Handed S → List Entry
+history_of StatusAlone = []
+history_of (OfFeeds out) = out.history
+
 -- nothing was begun
 pub record IsUnbegun {S : Type 0} (out : Outcome S) : Type 0 where
   pub no_feed : out.ends ≡ []
@@ -150,3 +165,9 @@ abbrev pub IsCourse : {S : Type 0} → (S → Option (List ℕ)) → (S → ℕ)
 IsCourse left faults names budget opener out status sink =
     ((due : Due) × IsDue left faults names budget opener out due × IsWritten due status sink)
     ⊎ ((status ≡ WANT_OF_MEMORY) × WritesNothing sink × IsCutOff left faults names budget opener out)
+
+-- a run that reads no feed: the opener is as it was, and this text was written; or no memory was left, and nothing was written
+pub record SaysOnly (due : Due) (opener : OpenerSeen) (status : ℕ) (sink : SinkSeen) : Type 0 where
+  pub told_kept : opener.told_after ≡ opener.told
+  pub no_fault : opener.faults_after ≡ opener.faults_before
+  pub answer : IsWritten due status sink ⊎ ((status ≡ WANT_OF_MEMORY) × WritesNothing sink)

@@ -6,20 +6,22 @@ use Rattle.outside_definitions.specs.Opener.{Told}
 use Rattle.outside_definitions.specs.Sink.{AppendsPrefix}
 use Rattle.desk_definitions.specs.declared.status.TheConstants.{NOT_WRITTEN}
 
--- what an opener tells of its sources, before and after; its promise that an opening fails only under a name that has no source left;
--- and its counts of failed openings
+-- what an opener tells of its sources, before and after; its promises that no read of a source fails, and that an opening fails only under
+-- a name that has no source left; and its counts of failed openings
 pub record OpenerSeen : Type 1 where
   pub told : Told
   pub told_after : Told
+  pub promises : Type 0
   pub opens_told : Type 0
   pub faults_before : ℕ
   pub faults_after : ℕ
 
-abbrev pub opener_seen : {O : Type 0} → (O → Told) → (O → Type 0) → (O → ℕ) → O → O → OpenerSeen
-opener_seen told opens_told faults before after =
+abbrev pub opener_seen : {O : Type 0} → (O → Told) → (O → Type 0) → (O → Type 0) → (O → ℕ) → O → O → OpenerSeen
+opener_seen told promises opens_told faults before after =
     record {
       told = told before;
       told_after = told after;
+      promises = promises before;
       opens_told = opens_told before;
       faults_before = faults before;
       faults_after = faults after;

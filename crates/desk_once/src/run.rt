@@ -28,7 +28,7 @@ pub(crate) fn run<O: Opener, K: Sink>(
     requires least_pivots { 1 ≤ pivots }
     requires most_pivots { pivots ≤ MOST_PIVOTS }
     ensures course { IsCourse O.S.left O.S.faults (map string_bytes names.now) pivots
-        (opener_seen O.told O.opens_told O.faults opener.old opener.new)
+        (opener_seen O.told O.promises O.opens_told O.faults opener.old opener.new)
         (record { ends = result.feeds.items; history = result.history.items }) result.status
         (sink_seen K.written K.faults sink.old sink.new) }
     ensures promised { O.promises opener.old → result.status ≢ NOT_READ }

@@ -27,7 +27,7 @@ pub fn open_all<O: Opener>(
     ensures each { IfOk result (λ sources. deque_len sources ≡ length names.now) }
     ensures opened { IfOk result (λ sources.
         AreOpened O.S.left O.S.faults (told_bytes (O.told opener.old) (map string_bytes names.now)) 0 sources.items) }
-    ensures opener { OpensSo (map string_bytes names.now) (opener_seen O.told O.opens_told O.faults opener.old opener.new) result }
+    ensures opener { OpensSo (map string_bytes names.now) (opener_seen O.told O.promises O.opens_told O.faults opener.old opener.new) result }
     ensures promised { O.promises opener.old → IfOk result (λ sources. All O.S.never_fails sources.items) }
 {
     let Ok(mut sources) = VecDeque::with_capacity(alloc, names.len()) else {

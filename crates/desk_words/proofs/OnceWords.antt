@@ -11,11 +11,11 @@ use Rattle.clap.specs.declared.parser.matches.ValueSource.TheVariants.{CommandLi
 use Rattle.clap.proofs.FaultLemmas.{stopped_fault}
 use Rattle.clap.proofs.WalkLemmas.{walk_stopped}
 use Rattle.desk_words.specs.Program.{program}
-use Rattle.desk_words.specs.Commands.{command_of, few_enough, once_of, pivots_of, subcommand_asks}
-use Rattle.desk_words.specs.WellFormed.{AreOnceWords, IsPivotsOption, is_positional_word}
+use Rattle.desk_words.specs.Commands.{asked_alone, command_of, first_of_both, parsed_command, few_enough, once_of, pivots_of, subcommand_asks}
+use Rattle.desk_words.specs.WellFormed.{AreOnceWords, AreWordsOf, IsPivotsOption, is_positional_word}
 use Rattle.desk_words.proofs.NumberWords.{number_is_positional}
 use Rattle.desk_words.specs.declared.command.Command.{Command}
-use Rattle.desk_words.specs.declared.command.Command.TheVariants.{Once}
+use Rattle.desk_words.specs.declared.command.Command.TheVariants.{Once, Help, Version}
 use Rattle.desk_words.proofs.FeedCounts.{few}
 use Rattle.desk_words.proofs.TakenWords.{fault_free_taken, whole}
 use Rattle.desk_words.proofs.FeedWords.{before_feeds, feed_filled, feeds_fault, feeds_walk, first_feed, first_feed_fault, in_feeds, many_values, once_built, once_rules, pivots_filled, plain_met, plain_no_fault, texts_pass}
@@ -188,7 +188,7 @@ program_asks rest = ap (λ (w : Walk). option_and_then subcommand_asks (entered 
 -- ---- together
 
 spelled : (options : List Text) (number : Option Text) (pivots : ℕ) (feed : Text) (feeds : List Text) → LeadsToFeeds options number → pivots_of number ≡ Some pivots
-    → list_all is_positional_word (feed ∷ feeds) ≡ true → length (feed ∷ feeds) ≤ 8 → command_of (codes "once" ∷ options ++ feed ∷ feeds) ≡ Some (Once pivots (feed ∷ feeds))
+    → list_all is_positional_word (feed ∷ feeds) ≡ true → length (feed ∷ feeds) ≤ 8 → parsed_command (codes "once" ∷ options ++ feed ∷ feeds) ≡ Some (Once pivots (feed ∷ feeds))
 spelled options number pivots feed feeds leads value plain most =
     let rest : List Text = options ++ feed ∷ feeds in
     let walks = whole_walk options number leads feed feeds plain in
@@ -199,16 +199,33 @@ spelled options number pivots feed feeds leads value plain most =
     ∙ ap₂ (λ (p : Option ℕ) (names : Option (List Text)). option_and_then (λ n. option_and_then (λ fs. Some (Once n fs)) names) p) value (few (feed ∷ feeds) (omega arith) most) in
     ap₂ (λ (b : Bool) (o : Option Command). cond b o None) (fault_free_taken (codes "once" ∷ rest) no_fault) asked
 
-pub once_words : (words : List Text) (pivots : ℕ) (feeds : List Text) → AreOnceWords words pivots feeds → command_of words ≡ Some (Once pivots feeds)
-once_words words pivots [] h = absurd (omega (arith, h.some_feeds))
-once_words words pivots (feed ∷ feeds) h = ap command_of h.spelled ∙ go h.option_form
+parsed_once : (words : List Text) (pivots : ℕ) (feeds : List Text) → AreOnceWords words pivots feeds → parsed_command words ≡ Some (Once pivots feeds)
+parsed_once words pivots [] h = absurd (omega (arith, h.some_feeds))
+parsed_once words pivots (feed ∷ feeds) h = ap parsed_command h.spelled ∙ go h.option_form
   where
-    from : (options : List Text) → h.options ≡ options → command_of (codes "once" ∷ options ++ feed ∷ feeds) ≡ Some (Once pivots (feed ∷ feeds))
-        → command_of (codes "once" ∷ h.options ++ feed ∷ feeds) ≡ Some (Once pivots (feed ∷ feeds))
-    from options is e = ap (λ (xs : List Text). command_of (codes "once" ∷ xs ++ feed ∷ feeds)) is ∙ e
+    from : (options : List Text) → h.options ≡ options → parsed_command (codes "once" ∷ options ++ feed ∷ feeds) ≡ Some (Once pivots (feed ∷ feeds))
+        → parsed_command (codes "once" ∷ h.options ++ feed ∷ feeds) ≡ Some (Once pivots (feed ∷ feeds))
+    from options is e = ap (λ (xs : List Text). parsed_command (codes "once" ∷ xs ++ feed ∷ feeds)) is ∙ e
 
-    go : IsPivotsOption h.options pivots → command_of (codes "once" ∷ h.options ++ feed ∷ feeds) ≡ Some (Once pivots (feed ∷ feeds))
+    go : IsPivotsOption h.options pivots → parsed_command (codes "once" ∷ h.options ++ feed ∷ feeds) ≡ Some (Once pivots (feed ∷ feeds))
     go (inl (none, default)) = from [] none (spelled [] None pivots feed feeds left_out (ap Some (sym default)) h.plain_feeds h.few_feeds)
     go (inr (number, value, inl is)) = from _ is (spelled _ (Some number) pivots feed feeds (joined number) value h.plain_feeds h.few_feeds)
     go (inr (number, value, inr is)) =
         from _ is (spelled _ (Some number) pivots feed feeds (apart number (number_is_positional number 1 65536 pivots value)) value h.plain_feeds h.few_feeds)
+
+-- `once` alone asks for nothing, and with more words it is not alone
+not_alone : (rest : List Text) → asked_alone (codes "once" ∷ rest) ≡ None
+not_alone [] = refl
+not_alone (word ∷ rest) = refl
+
+pub once_words : (words : List Text) (pivots : ℕ) (feeds : List Text) → AreOnceWords words pivots feeds → command_of words ≡ Some (Once pivots feeds)
+once_words words pivots feeds h =
+    ap (λ o. first_of_both o (parsed_command words)) (ap asked_alone h.spelled ∙ not_alone (h.options ++ feeds)) ∙ parsed_once words pivots feeds h
+
+-- words that spell a command give it
+pub spelled_words : (words : List Text) (command : Command) → AreWordsOf words command → command_of words ≡ Some command
+spelled_words words (Once pivots feeds) h = once_words words pivots feeds h
+spelled_words words Help (inl e) = ap (λ (xs : List Text). first_of_both (asked_alone xs) (parsed_command words)) e
+spelled_words words Help (inr e) = ap (λ (xs : List Text). first_of_both (asked_alone xs) (parsed_command words)) e
+spelled_words words Version (inl e) = ap (λ (xs : List Text). first_of_both (asked_alone xs) (parsed_command words)) e
+spelled_words words Version (inr e) = ap (λ (xs : List Text). first_of_both (asked_alone xs) (parsed_command words)) e

@@ -1,5 +1,5 @@
 -- A command that the words give lies within the limits.
-use Rattle.std.proofs.Common.{◌≡◌, ℕ, ◌≤◌, Bool, true, false, cond, leb, ◌&&◌, List, length, Option, Some, None, Result, Ok, Err, IfOk, refl, subst, arith}
+use Rattle.std.proofs.Common.{◌≡◌, ℕ, ◌≤◌, Bool, true, false, cond, leb, ◌&&◌, List, [], ◌∷◌, length, Option, Some, None, Result, Ok, Err, IfOk, refl, subst, arith, ◌∙◌}
 use Rattle.std.specs.Prelude.{option_and_then, codes}
 use Rattle.std.specs.Str.{bytes_eq}
 use Rattle.std.proofs.lemmas.Bool.{leb-true}
@@ -7,9 +7,9 @@ use Rattle.number_definitions.specs.Readings.{number_of}
 use Rattle.clap.specs.Words.{Row, Text, first_of, subcommand_of}
 use Rattle.desk_words.specs.Numbers.{number_within}
 use Rattle.desk_words.specs.Program.{program}
-use Rattle.desk_words.specs.Commands.{Answers, IsInRange, command_of, few_enough, is_taken, names_in, once_of, pivots_in, pivots_of, subcommand_asks}
+use Rattle.desk_words.specs.Commands.{Answers, IsInRange, asked_alone, asked_by, command_of, first_of_both, is_help_word, is_version_word, parsed_command, few_enough, is_taken, names_in, once_of, pivots_in, pivots_of, subcommand_asks}
 use Rattle.desk_words.specs.declared.command.Command.{Command}
-use Rattle.desk_words.specs.declared.command.Command.TheVariants.{Once}
+use Rattle.desk_words.specs.declared.command.Command.TheVariants.{Once, Help, Version}
 use Rattle.desk_words.specs.declared.command.WordsFault.{WordsFault}
 
 -- a chain that gives something: so did its first part
@@ -62,14 +62,34 @@ asked_within found command e = go (bytes_eq found.0 (codes "once")) e
     go true e = once_within found.1 command e
     go false e = absurd (cc)
 
-command_within : (words : List Text) (command : Command) → command_of words ≡ Some command → IsInRange command
-command_within words command e = go (is_taken words) e
+parsed_within : (words : List Text) (command : Command) → parsed_command words ≡ Some command → IsInRange command
+parsed_within words command e = go (is_taken words) e
   where
     go : (b : Bool) → cond b (option_and_then subcommand_asks (subcommand_of program words)) None ≡ Some command → IsInRange command
     go true e =
         let part = bound (subcommand_of program words) subcommand_asks command e in
         asked_within part.0 command part.2
     go false e = absurd (cc)
+
+word_within : (word : Text) (command : Command) → asked_by word ≡ Some command → IsInRange command
+word_within word command e = go (is_help_word word) (is_version_word word) e
+  where
+    go : (a b : Bool) → cond a (Some Help) (cond b (Some Version) None) ≡ Some command → IsInRange command
+    go true b e = let same : Help ≡ command = cc in subst IsInRange same tt
+    go false true e = let same : Version ≡ command = cc in subst IsInRange same tt
+    go false false e = absurd (cc)
+
+alone_within : (words : List Text) (command : Command) → asked_alone words ≡ Some command → IsInRange command
+alone_within [] command e = absurd (cc)
+alone_within (word ∷ []) command e = word_within word command e
+alone_within (word ∷ other ∷ words) command e = absurd (cc)
+
+command_within : (words : List Text) (command : Command) → command_of words ≡ Some command → IsInRange command
+command_within words command e = go (asked_alone words) refl e
+  where
+    go : (o : Option Command) → asked_alone words ≡ o → first_of_both o (parsed_command words) ≡ Some command → IsInRange command
+    go None is e = parsed_within words command e
+    go (Some found) is e = alone_within words command (is ∙ e)
 
 -- the answer of a reading
 pub answer_within : (words : List Text) (r : Result Command WordsFault) → Answers (command_of words) r → IfOk r IsInRange

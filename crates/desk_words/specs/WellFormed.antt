@@ -5,6 +5,8 @@ use Rattle.std.specs.List.{list_all}
 use Rattle.clap.specs.Words.{Text}
 use Rattle.scan_types.specs.declared.limits.TheConstants.{DEFAULT_PIVOTS, MOST_FEEDS, MOST_PIVOTS}
 use Rattle.desk_words.specs.Numbers.{number_in}
+use Rattle.desk_words.specs.declared.command.Command.{Command}
+use Rattle.desk_words.specs.declared.command.Command.TheVariants.{Once, Help, Version}
 
 -- the word is not empty and does not begin with a hyphen (45)
 abbrev pub is_positional_word : Text → Bool
@@ -25,3 +27,17 @@ pub record AreOnceWords (words : List Text) (pivots : ℕ) (feeds : List Text) :
   pub some_feeds : 1 ≤ length feeds
   pub few_feeds : length feeds ≤ MOST_FEEDS
   pub plain_feeds : list_all is_positional_word feeds ≡ true
+
+-- the one word that asks which commands there are
+abbrev pub AreHelpWords : List Text → Type 0
+AreHelpWords words = (words ≡ codes "--help" ∷ []) ⊎ (words ≡ codes "-h" ∷ [])
+
+-- the one word that asks for the version
+abbrev pub AreVersionWords : List Text → Type 0
+AreVersionWords words = (words ≡ codes "--version" ∷ []) ⊎ (words ≡ codes "-V" ∷ [])
+
+-- the words are well formed, and spell this command
+abbrev pub AreWordsOf : List Text → Command → Type 0
+AreWordsOf words (Once pivots feeds) = AreOnceWords words pivots feeds
+AreWordsOf words Help = AreHelpWords words
+AreWordsOf words Version = AreVersionWords words

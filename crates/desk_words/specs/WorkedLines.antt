@@ -6,7 +6,7 @@ use Rattle.std.specs.List.{slice_split}
 use Rattle.clap.specs.Words.{Text}
 use Rattle.desk_words.specs.Commands.{command_of}
 use Rattle.desk_words.specs.declared.command.Command.{Command}
-use Rattle.desk_words.specs.declared.command.Command.TheVariants.{Once}
+use Rattle.desk_words.specs.declared.command.Command.TheVariants.{Once, Help, Version}
 
 abbrev pub words_of : String → List Text
 words_of line = slice_split (λ byte. byte == 32) (codes line)
@@ -129,19 +129,27 @@ count_lines =
     ∷ (words_of "once -- f0 f1 f2 f3 f4 f5 f6 f7 f8", None)
     ∷ []
 
--- there is no help, and no version
+-- help and the version are asked for by one word alone
 abbrev pub help_lines : List WorkedLine
 help_lines =
     (words_of "help", None)
     ∷ (words_of "help once", None)
-    ∷ (words_of "--help", None)
-    ∷ (words_of "-h", None)
+    ∷ (words_of "--help", Some Help)
+    ∷ (words_of "-h", Some Help)
     ∷ (words_of "once --help", None)
     ∷ (words_of "once a.feed -h", None)
-    ∷ (words_of "--version", None)
-    ∷ (words_of "-V", None)
+    ∷ (words_of "--version", Some Version)
+    ∷ (words_of "-V", Some Version)
     ∷ (words_of "once --version a.feed", None)
     ∷ (words_of "once -V a.feed", None)
+    ∷ (words_of "--help once", None)
+    ∷ (words_of "--help --help", None)
+    ∷ (words_of "-h ", None)
+    ∷ (words_of "-H", None)
+    ∷ (words_of "-v", None)
+    ∷ (words_of "--help=", None)
+    ∷ (words_of "-- --help", None)
+    ∷ (words_of "once -- --help", Some (Once 4096 (words_of "--help")))
     ∷ []
 
 abbrev pub worked_lines : List WorkedLine

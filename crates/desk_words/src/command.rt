@@ -50,6 +50,10 @@ pub enum Command {
         /// 1 to `MOST_FEEDS` feeds.
         feeds: FeedNames,
     },
+    /// Writes which commands there are.
+    Help,
+    /// Writes the version.
+    Version,
 }
 
 /// Why words were not read.

@@ -1,8 +1,9 @@
 //! From the words to a command.
-ghost use Rattle.std.specs.Prelude.{◌≡◌, ◌⊎◌, ℕ, List, option_map, map, string_bytes, IfOk, IsErrOf, MatchResult};
-ghost use Rattle.clap.specs.Words.{Text, found_of, rows_of};
-ghost use Rattle.desk_words.specs.Commands.{Answers, FoundIn, IsInRange, IsNoCommand, command_of, few_enough, is_feed_count, names_in, once_of, pivots_in};
-ghost use Rattle.desk_words.specs.WellFormed.{AreOnceWords};
+ghost use Rattle.std.specs.Prelude.{◌≡◌, ◌⊎◌, option_map, map, string_bytes, IfOk, IsErrOf, MatchResult};
+ghost use Rattle.clap.specs.Words.{found_of, rows_of};
+ghost use Rattle.desk_words.specs.Commands.{Answers, FoundIn, IsInRange, IsNoCommand, asked_alone, asked_by, command_of, few_enough, is_feed_count, is_help_word, is_version_word, names_in, once_of, parsed_command, pivots_in};
+ghost use Rattle.desk_words.specs.WellFormed.{AreWordsOf};
+ghost use Rattle.desk_words.specs.declared.command.Command.{Command};
 
 use crate::command::{Command, FeedNames, WordsFault};
 use crate::numbers::read_number;
@@ -90,9 +91,9 @@ fn found_in<'a>(alloc: Global, words: &'a [String]) -> Result<ArgMatches<'a>, Wo
     }
 }
 
-// The command that the words give.
-fn read(alloc: Global, words: &[String]) -> Result<Command, WordsFault>
-    ensures { Answers (command_of (map string_bytes words.now)) result }
+// The command that `clap` finds in the words.
+fn read_parsed(alloc: Global, words: &[String]) -> Result<Command, WordsFault>
+    ensures { Answers (parsed_command (map string_bytes words.now)) result }
 {
     let matches = match found_in(alloc, words) {
         Ok(matches) => matches,
@@ -104,11 +105,59 @@ fn read(alloc: Global, words: &[String]) -> Result<Command, WordsFault>
     }
 }
 
+// Whether the word asks which commands there are.
+fn is_help_word(word: &str) -> bool
+    ensures { result ≡ is_help_word word.now }
+{
+    word == "--help" || word == "-h"
+}
+
+// Whether the word asks for the version.
+fn is_version_word(word: &str) -> bool
+    ensures { result ≡ is_version_word word.now }
+{
+    word == "--version" || word == "-V"
+}
+
+// What a word asks for if it is the only one.
+fn asked_by(word: &str) -> Option<Command>
+    ensures { result ≡ asked_by word.now }
+{
+    if is_help_word(word) {
+        Some(Command::Help)
+    } else if is_version_word(word) {
+        Some(Command::Version)
+    } else {
+        None
+    }
+}
+
+// What the only word asks for, if there is just one.
+fn asked_alone(words: &[String]) -> Option<Command>
+    ensures { result ≡ asked_alone (map string_bytes words.now) }
+{
+    match words {
+        [word] => asked_by(word.as_str()),
+        _ => None,
+    }
+}
+
+// The command that the words give.
+fn read(alloc: Global, words: &[String]) -> Result<Command, WordsFault>
+    ensures { Answers (command_of (map string_bytes words.now)) result }
+{
+    match asked_alone(words) {
+        Some(command) => Ok(command),
+        None => read_parsed(alloc, words),
+    }
+}
+
 /// The command that the words after the program's name give.
 ///
-/// `clap` decides which words the program takes: a subcommand, its options, each with a value in the next word or behind `=`, and
-/// its positional words; `--` ends the options, and there is no help. Beyond that a number word has to be 1 to
-/// `MOST_NUMBER_DIGITS` decimal digits that write a number in its range, and `FEED` has to name 1 to `MOST_FEEDS` feeds.
+/// One word alone, `--help` or `-h`, `--version` or `-V`, asks for help or for the version. Of all other words `clap` decides which the
+/// program takes: a subcommand, its options, each with a value in the next word or behind `=`, and its positional words; `--` ends the
+/// options. Beyond that a number word has to be 1 to `MOST_NUMBER_DIGITS` decimal digits that write a number in its range, and `FEED` has
+/// to name 1 to `MOST_FEEDS` feeds.
 /// Fails with `NoCommand` if the words miss any of this, and with `WantOfMemory` if no memory is left.
 pub fn read_words(alloc: Global, words: &[String]) -> Result<Command, WordsFault>
     ensures command { IfOk result (λ command. command_of (map string_bytes words.now) ≡ Some command) }
@@ -117,8 +166,8 @@ pub fn read_words(alloc: Global, words: &[String]) -> Result<Command, WordsFault
     ensures no_command_due { IsNoCommand (map string_bytes words.now) →
         MatchResult result (λ _. ⊥) (λ fault. (fault ≡ WordsFault.NoCommand) ⊎ (fault ≡ WordsFault.WantOfMemory)) }
     // Words that are well formed are never refused.
-    ensures well_formed { (pivots : ℕ) (feeds : List Text) → AreOnceWords (map string_bytes words.now) pivots feeds →
-        MatchResult result (λ command. command ≡ Command.Once pivots feeds) (λ fault. fault ≡ WordsFault.WantOfMemory) }
+    ensures well_formed { (spelled : Command) → AreWordsOf (map string_bytes words.now) spelled →
+        MatchResult result (λ command. command ≡ spelled) (λ fault. fault ≡ WordsFault.WantOfMemory) }
     // What a command asks for lies within the limits.
     ensures in_range { IfOk result IsInRange }
 {

@@ -32,7 +32,7 @@ pub fn exit_code<O: Opener, K: Sink>(
 ) -> ExitCode
     // `desk` runs on all words behind the name, and its status is the exit code.
     ensures ends_with { EndsWith O.S.left O.S.faults (words_of (map string_bytes arguments.now))
-        (opener_seen O.told O.opens_told O.faults opener.old opener.new) (exit_status result)
+        (opener_seen O.told O.promises O.opens_told O.faults opener.old opener.new) (exit_status result)
         (sink_seen K.written K.faults sink.old sink.new) }
     ensures read_as_promised { O.promises opener.old → exit_status result ≢ NOT_READ }
 {

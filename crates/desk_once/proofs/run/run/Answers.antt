@@ -18,7 +18,7 @@ returns-in-Ok-clause-course g c =
     let out : Outcome g.row.O-S.Denot = record { ends = c.with_sources.result.feeds.items; history = c.with_sources.result.history.items } in
     let count : length c.in-Ok.sources.items ≡ length names = omega (arith, c.in-Ok.ensures.each, length-map c.args.names.now string_bytes) in
     opened_course g.O.S.Source.left g.O.S.Source.faults names c.args.pivots (length c.in-Ok.sources.items)
-    (opener_seen g.O.Opener.told g.O.Opener.opens_told g.O.Opener.faults c.args.opener.now c.open_all.new.opener) out c.with_sources.result.status
+    (opener_seen g.O.Opener.told g.O.Opener.promises g.O.Opener.opens_told g.O.Opener.faults c.args.opener.now c.open_all.new.opener) out c.with_sources.result.status
     (sink_seen g.K.Sink.written g.K.Sink.faults c.args.sink.now c.with_sources.new.sink) c.in-Ok.ensures.opener count (c.with_sources.ensures.course told c.in-Ok.ensures.opened)
 
 pub returns-in-Ok-clause-counted : goal.returns-in-Ok-clause-counted
