@@ -1,6 +1,9 @@
 pub mod Columns
 pub mod JudgingPrograms
+pub mod CoarseOdds
 pub mod Stakes
+pub mod FirstRun
 pub mod Readings
+pub mod CoarseFinding
 pub mod ExactFinding
 pub mod Laws

@@ -6,5 +6,6 @@ pub mod Alike
 pub mod AlikeSums
 pub mod FiveGains
 pub mod SameBets
+pub mod RaisedOdds
 pub mod CanLose
 pub mod Roundings
