@@ -8,3 +8,4 @@ pub mod History
 pub mod Course
 pub mod Causes
 pub mod Judged
+pub mod Run

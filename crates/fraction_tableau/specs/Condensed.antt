@@ -3,15 +3,16 @@ use Rattle.std.specs.Prelude.{◌≡◌, ◌≢◌, ℕ, ◌+◌, ◌<◌, ◌�
 use Rattle.row_definitions.specs.Combination.{FitsAt, PassesNowhere}
 use Rattle.condensed_laws.specs.Heads.{pivot_places, lent}
 use Rattle.condensed_laws.specs.Tableaus.{CondensedTableau, IsSound, condensed_row}
+use Rattle.pivot_definitions.specs.declared.limits.TheConstants.{MOST_COLUMNS, MOST_ROWS}
 
 -- a tableau of no columns and no rows
 abbrev pub empty_condensed : CondensedTableau
 empty_condensed = record { columns = 0; rows = []; basis = []; heads = [] }
 
--- a sound tableau of 1 to 2,048 columns and 1 to 2,048 rows, or the empty one
+-- a sound tableau of 1 to MOST_COLUMNS columns and 1 to MOST_ROWS rows, or the empty one
 pub record IsSoundOrEmpty (t : CondensedTableau) : Type 0 where
-  pub few_columns : t.columns ≤ 2048
-  pub few_rows : length t.basis ≤ 2048
+  pub few_columns : t.columns ≤ MOST_COLUMNS
+  pub few_rows : length t.basis ≤ MOST_ROWS
   pub sound : 0 < length t.heads → IsSound t
   pub some_column : 0 < length t.heads → 0 < t.columns
   pub some_row : 0 < length t.heads → 0 < length t.basis

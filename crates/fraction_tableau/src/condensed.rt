@@ -7,6 +7,7 @@ ghost use Rattle.pivot_definitions.specs.Tableaus.{entry_at, HasFittingEntries, 
 ghost use Rattle.condensed_laws.specs.Heads.{place_by, places};
 ghost use Rattle.condensed_laws.specs.Tableaus.{IsSound, expanded, condensed_pivot, condensed_built, condensed_built_row, condensed_built_objective};
 ghost use Rattle.fraction_tableau.specs.Condensed.{empty_condensed, CondensedFits, CondensedPassesFirst};
+ghost use Rattle.pivot_definitions.specs.declared.limits.TheConstants.{MOST_COLUMNS, MOST_ROWS};
 
 use crate::lent::{combine_others, first_place};
 use crate::pivot::Passed2;
@@ -84,7 +85,7 @@ impl Condensed {
     // How many columns the program has.
     pub(crate) fn columns(&self) -> u32
         ensures value { result ≡ self.now.columns }
-        ensures few { result ≤ 2048 }
+        ensures few { result ≤ MOST_COLUMNS }
         ensures sound { 0 < result → IsSound self.now }
     {
         self.columns
@@ -93,7 +94,7 @@ impl Condensed {
     // How many rows the program has.
     pub(crate) fn rows(&self) -> u32
         ensures value { result ≡ length self.now.basis }
-        ensures few { result ≤ 2048 }
+        ensures few { result ≤ MOST_ROWS }
         ensures sound { 0 < result → IsSound self.now }
     {
         self.basis.len() as u32
@@ -111,7 +112,7 @@ impl Condensed {
     // The columns that are basic, row by row.
     pub(crate) fn basis(&self) -> &[u32]
         ensures value { result.now ≡ self.now.basis }
-        ensures few { length result.now ≤ 2048 }
+        ensures few { length result.now ≤ MOST_ROWS }
     {
         self.basis.as_slice()
     }
@@ -186,8 +187,8 @@ impl Condensed {
 
 // The place in a row of a column by its head.
 fn place_in(width: u32, row: u32, head: u32) -> usize
-    requires few_columns { width ≤ 2048 }
-    requires row { row < 2049 }
+    requires few_columns { width ≤ MOST_COLUMNS }
+    requires row { row < MOST_ROWS + 1 }
     ensures { result ≡ place_by width row head }
 {
     if head < width {
@@ -230,7 +231,7 @@ fn fill_rows(rows: &mut Rows, program: &Program)
 // Pushes so many numbers that rise by 1.
 fn push_range(numbers: &mut Vec<u32>, first: u32, count: u32)
     requires room { vec_len numbers.old + count ≤ vec_capacity numbers.old }
-    requires few { first + count ≤ 4096 }
+    requires few { first + count ≤ MOST_COLUMNS + MOST_ROWS }
     ensures { numbers.new.items ≡ numbers.old.items ++ range_with_len first count }
 {
     for more in 0..count {

@@ -6,6 +6,7 @@ ghost use Rattle.pivot_definitions.specs.Tableaus.{others_combined};
 ghost use Rattle.condensed_laws.specs.Heads.{pivot_place_by, moved};
 ghost use Rattle.fraction_tableau.specs.Combinable.{Combinable};
 ghost use Rattle.fraction_tableau.specs.Lent.{row_of, AreCombinable, PassNowhereBelow, FitsInColumn, ShowPassing, IsFirstRow, IsFirstColumn, IsFirstPlace};
+ghost use Rattle.pivot_definitions.specs.declared.limits.TheConstants.{MOST_COLUMNS, MOST_ROWS};
 
 use crate::pivot::Passed2;
 use crate::rows::Rows;
@@ -21,9 +22,9 @@ pub(crate) fn first_place(
 ) -> Option<Passed2>
     requires combinable { AreCombinable rows.now width pivot place }
     requires shown { ShowPassing rows.now width heads.now pivot place }
-    requires few_columns { width ≤ 2048 }
-    requires few_rows { length rows.now ≤ 2049 }
-    requires few_heads { length heads.now ≤ 4096 }
+    requires few_columns { width ≤ MOST_COLUMNS }
+    requires few_rows { length rows.now ≤ MOST_ROWS + 1 }
+    requires few_heads { length heads.now ≤ MOST_COLUMNS + MOST_ROWS }
     ensures some { IfSome result (λ at. IsFirstPlace rows.now width heads.now pivot place at.row at.column) }
     ensures none { IfNone result (PassNowhereBelow rows.now pivot place (length rows.now)) }
 {
@@ -61,8 +62,8 @@ fn first_column(
     requires within { target < length rows.now }
     requires another { target ≢ pivot }
     requires combinable { AreCombinable rows.now width pivot place }
-    requires few_columns { width ≤ 2048 }
-    requires few_rows { length rows.now ≤ 2049 }
+    requires few_columns { width ≤ MOST_COLUMNS }
+    requires few_rows { length rows.now ≤ MOST_ROWS + 1 }
     requires passes { ¬ ((column : ℕ) → column < length heads.now + 1 → FitsInColumn rows.now width heads.now target pivot place column) }
     ensures { IsFirstColumn rows.now width heads.now target pivot place result }
 {
@@ -77,9 +78,9 @@ fn first_column(
 
 // The place in the target of a column by its head, while the pivot row's basic column leaves.
 fn lent_place(width: u32, target: usize, pivot: usize, head: u32) -> usize
-    requires few_columns { width ≤ 2048 }
-    requires target { target < 2049 }
-    requires pivot { pivot < 2049 }
+    requires few_columns { width ≤ MOST_COLUMNS }
+    requires target { target < MOST_ROWS + 1 }
+    requires pivot { pivot < MOST_ROWS + 1 }
     ensures { result ≡ pivot_place_by width target pivot head }
 {
     let width = width as usize;
@@ -108,7 +109,7 @@ fn fits_in(rows: &Rows, target: usize, pivot: usize, place: usize, at: usize) ->
 // Combines each row but the pivot row with that one; the column that leaves then has the place of the one that enters.
 pub(crate) fn combine_others(rows: &mut Rows, width: usize, pivot: usize, place: usize)
     requires combinable { AreCombinable rows.old width pivot place }
-    requires few_columns { width ≤ 2048 }
+    requires few_columns { width ≤ MOST_COLUMNS }
     requires passes_nowhere { PassNowhereBelow rows.old pivot place (length rows.old) }
     ensures { rows.new ≡ others_combined (λ target. moved width place (combined target (row_of rows.old pivot) place)) rows.old pivot }
 {
@@ -124,7 +125,7 @@ fn combine_one(rows: &mut Rows, width: usize, target: usize, pivot: usize, place
     requires within { target < length rows.old }
     requires pivot { pivot < length rows.old }
     requires differ { target ≢ pivot }
-    requires few_columns { width ≤ 2048 }
+    requires few_columns { width ≤ MOST_COLUMNS }
     requires place { place < width }
     requires count { length (row_of rows.old target) ≡ width + 3 }
     requires combinable { Combinable (row_of rows.old target) (row_of rows.old pivot) place }

@@ -24,7 +24,8 @@ mod rows;
 mod tableau;
 
 pub use pivot::Passed2;
-pub use program::{MOST_COLUMNS, MOST_ROWS, Program};
+pub use pivot_definitions::limits::{MOST_COLUMNS, MOST_ROWS};
+pub use program::Program;
 pub use tableau::Tableau;
 
 #[cfg(test)]

@@ -3,13 +3,8 @@ ghost use Rattle.std.specs.List.{All};
 ghost use Rattle.row_definitions.specs.Combination.{FitsEntry};
 ghost use Rattle.pivot_definitions.specs.Programs.{LinearProgram, IsWithinLimits, IsCapped, unit_row};
 
+use pivot_definitions::limits::{MOST_COLUMNS, MOST_ROWS};
 use std::marker::Model;
-
-/// The most columns of a program: with as many rows, a number of a column still fits 32 bits by far.
-pub const MOST_COLUMNS: u32 = 2048;
-
-/// The most rows of a program.
-pub const MOST_ROWS: u32 = 2048;
 
 /// A linear program in whole numbers: each row's sum of coefficient times column is at most its right side, no column is
 /// below 0, and column 0 is to be as large as possible.

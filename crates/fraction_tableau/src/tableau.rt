@@ -2,6 +2,7 @@ ghost use Rattle.std.specs.Prelude.{◌≡◌, ◌+◌, ◌<◌, ◌≤◌, ◌�
 ghost use Rattle.std.specs.List.{Contains};
 ghost use Rattle.row_definitions.specs.Combination.{FitsEntry};
 ghost use Rattle.pivot_definitions.specs.Tableaus.{IsKeptTableau, column_count, entry_at, right_side, objective, basic_column, multiplier_of, IsValueOf, built, empty_tableau};
+ghost use Rattle.pivot_definitions.specs.declared.limits.TheConstants.{MOST_COLUMNS, MOST_ROWS};
 
 use crate::condensed::Condensed;
 use crate::program::Program;
@@ -61,7 +62,7 @@ impl Tableau {
     /// How many columns the program has: from 1 to 2,048, and 0 where the tableau is empty.
     pub fn columns(&self) -> u32
         ensures value { result ≡ self.now.columns }
-        ensures few { result ≤ 2048 }
+        ensures few { result ≤ MOST_COLUMNS }
         // Every tableau that is not empty is one in kept and canonical form.
         ensures kept { 0 < result → IsKeptTableau self.now }
     {
@@ -72,7 +73,7 @@ impl Tableau {
     /// is empty.
     pub fn rows(&self) -> u32
         ensures value { result ≡ length self.now.basis }
-        ensures few { result ≤ 2048 }
+        ensures few { result ≤ MOST_ROWS }
         // Every tableau that is not empty is one in kept and canonical form.
         ensures kept { 0 < result → IsKeptTableau self.now }
     {
@@ -135,7 +136,7 @@ impl Tableau {
     fn row_of(&self, column: u32) -> Option<usize>
         ensures value { result ≡ position (λ basic. basic == column) self.now.basis }
         ensures within { IfSome result (λ row. row < length self.now.basis) }
-        ensures few { length self.now.basis ≤ 2048 }
+        ensures few { length self.now.basis ≤ MOST_ROWS }
     {
         self.condensed
             .basis()

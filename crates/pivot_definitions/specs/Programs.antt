@@ -3,6 +3,7 @@ use Rattle.std.specs.Prelude.{◌≡◌, ℕ, ◌-◌, ◌*◌, ◌<◌, ◌≤�
 use Rattle.std.specs.List.{All}
 use Rattle.row_definitions.specs.Rows.{entry}
 use Rattle.row_definitions.specs.Combination.{FitsEntry}
+use Rattle.pivot_definitions.specs.declared.limits.TheConstants.{MOST_COLUMNS, MOST_ROWS}
 
 -- a program by its coefficients, row by row, and the right side of each row
 pub record LinearProgram : Type 0 where
@@ -32,10 +33,10 @@ pub record FitsEntries (program : LinearProgram) : Type 0 where
   pub coefficients : All FitsEntry program.coefficients
   pub right_sides : All FitsEntry program.right_sides
 
--- a program of at most 2,048 columns and rows whose numbers an entry may have
+-- a program of at most MOST_COLUMNS columns and MOST_ROWS rows whose numbers an entry may have
 pub record IsWithinLimits (program : LinearProgram) : Type 0 where
-  pub few_columns : program.columns ≤ 2048
-  pub few_rows : program.rows ≤ 2048
+  pub few_columns : program.columns ≤ MOST_COLUMNS
+  pub few_rows : program.rows ≤ MOST_ROWS
   pub program_holds : IsProgram program
   pub numbers_fit : FitsEntries program
 

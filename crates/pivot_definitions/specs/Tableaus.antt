@@ -4,6 +4,7 @@ use Rattle.std.specs.List.{All, range_with_len}
 use Rattle.row_definitions.specs.Rows.{entry, primitive_row}
 use Rattle.row_definitions.specs.Combination.{FitsEntry, plain_combination, PassesNowhere, PassesFirst}
 use Rattle.pivot_definitions.specs.Programs.{LinearProgram, coefficient_row, unit_row}
+use Rattle.pivot_definitions.specs.declared.limits.TheConstants.{MOST_COLUMNS, MOST_ROWS}
 
 -- a tableau: the constraint rows and, last, the objective row, over the program's columns, a slack column for each constraint row and the right side; and the basic column of each constraint row
 pub record SimplexTableau : Type 0 where
@@ -62,12 +63,12 @@ pub record IsCanonical (tableau : SimplexTableau) : Type 0 where
   pub positive : (row : ℕ) → row < length tableau.basis → pos 0 <ℤ entry_at tableau row (basic_column tableau row)
   pub zero_elsewhere : (row other : ℕ) → row < length tableau.basis → other < length tableau.rows → other ≢ row → entry_at tableau other (basic_column tableau row) ≡ pos 0
 
--- a tableau of 1 to 2,048 columns and 1 to 2,048 rows, in kept and canonical form and with entries that fit
+-- a tableau of 1 to MOST_COLUMNS columns and 1 to MOST_ROWS rows, in kept and canonical form and with entries that fit
 pub record IsKeptTableau (tableau : SimplexTableau) : Type 0 where
   pub some_column : 0 < tableau.columns
   pub some_row : 0 < length tableau.basis
-  pub few_columns : tableau.columns ≤ 2048
-  pub few_rows : length tableau.basis ≤ 2048
+  pub few_columns : tableau.columns ≤ MOST_COLUMNS
+  pub few_rows : length tableau.basis ≤ MOST_ROWS
   pub shape : IsTableau tableau
   pub fits : HasFittingEntries tableau
   pub primitive : HasPrimitiveRows tableau

@@ -16,6 +16,8 @@
 //! - `duality_law`: by the multipliers the rows bound the objective, and the basic solution reaches that bound.
 #![tactic(auto)]
 
+pub mod limits;
+
 ghost use Rattle.pivot_definitions.specs.Laws.{KeptPivot, KeptRowsAreMultiples, SameChoices, SameBest};
 ghost use Rattle.pivot_definitions.specs.Runs.{ChoiceIsOne, RunIsOne};
 ghost use Rattle.pivot_definitions.specs.Feasible.{ReachedIsFeasible, ValuesAreNotNegative};

@@ -7,7 +7,7 @@ use Rattle.scan_types.specs.declared.limits.TheConstants.{MOST_PART}
 use Rattle.finding_definitions.specs.Arbitrage.{sum_over, total_net, total_gain, need, IsArbitrage, ReachesUnit}
 use Rattle.finding_definitions.specs.Measure.{weighted_sum, mean, final_weight, IsPriceMeasure}
 use Rattle.finding_definitions.specs.Verdicts.{IsRightCoherent}
-use Rattle.price_duality.specs.Duality.{WinsUnit}
+use Rattle.finding_definitions.specs.Truths.{WinsUnit}
 use Rattle.price_duality.proofs.Products.{times_le}
 use Rattle.price_duality.proofs.Averages.{Entry, weighted_sum-times, weighted_sum_le, sums_exchange, no_stakes_gain, final_weight_pos}
 use Rattle.price_duality.proofs.Roundings.{total_net_below}

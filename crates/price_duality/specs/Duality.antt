@@ -1,16 +1,13 @@
-use Rattle.std.specs.Prelude.{ℕ, pos, ◌≤◌, ◌*◌, ◌*ℤ◌, ◌≤ℤ◌, List}
+use Rattle.std.specs.Prelude.{ℕ, List}
 use Rattle.scan_types.specs.declared.offer.Offer.{Offer}
 use Rattle.scan_types.specs.declared.outcome.Outcome.{Outcome}
-use Rattle.finding_definitions.specs.Arbitrage.{need, total_gain, IsArbitrage, ReachesUnit}
+use Rattle.finding_definitions.specs.Arbitrage.{IsArbitrage, ReachesUnit}
+use Rattle.finding_definitions.specs.declared.finding.Finding.{Finding}
+use Rattle.finding_definitions.specs.Findings.{IsRight}
+use Rattle.finding_definitions.specs.Truths.{IsTrueOf, WinsUnit}
 use Rattle.finding_definitions.specs.Verdicts.{IsRightCoherent, IsRightThin, IsRightNarrow, ReachesSlack}
 
--- stakes in fractions, the parts over the divisor, that win at least one minor unit at every final score
--- and lose nothing at any abandonment, whatever the limits are
-pub record WinsUnit (offers : List Offer) (divisor : ℕ) (parts : List ℕ) : Type 0 where
-  pub divides : 1 ≤ divisor
-  pub wins : (x : Outcome) → (pos (2000 * divisor) *ℤ need x) ≤ℤ total_gain offers parts x
-
--- weights under which no offer gains on average rule such stakes out
+-- weights under which no offer gains on average rule out stakes that win a unit
 abbrev pub RulesOutUnit : Type 0
 RulesOutUnit =
     (offers : List Offer) (measure : List (Outcome × ℕ)) (divisor : ℕ) (parts : List ℕ) → IsRightCoherent offers measure → ¬ WinsUnit offers divisor parts
@@ -39,3 +36,7 @@ ThinRulesOutArbitrage =
 abbrev pub NarrowRulesOutSlack : Type 0
 NarrowRulesOutSlack =
     (offers : List Offer) (measure : List (Outcome × ℕ)) (d divisor : ℕ) (found parts : List ℕ) → IsRightNarrow offers d found measure → ¬ ReachesSlack offers divisor parts
+
+-- a right finding is true of its sheet: no stakes do what it rules out
+abbrev pub RightIsTrue : Type 0
+RightIsTrue = (offers : List Offer) (finding : Finding) → IsRight offers finding → IsTrueOf offers finding

@@ -6,7 +6,7 @@
 #![tactic(auto)]
 
 ghost use Rattle.price_duality.specs.Duality.{RulesOutUnit, RulesOutReach, RulesOutArbitrage};
-ghost use Rattle.price_duality.specs.Duality.{ThinRulesOutReach, ThinRulesOutArbitrage, NarrowRulesOutSlack};
+ghost use Rattle.price_duality.specs.Duality.{ThinRulesOutReach, ThinRulesOutArbitrage, NarrowRulesOutSlack, RightIsTrue};
 
 /// Under a right price measure no stakes, in fractions and under any limits, win one minor unit at every
 /// final score and lose nothing at any abandonment.
@@ -30,4 +30,10 @@ pub fn limits_rule_out_unit()
 /// Under a right `Narrow` no stakes within the limits win what is needed and what rounding may cost.
 pub fn limits_rule_out_slack()
     ensures { NarrowRulesOutSlack }
+{}
+
+/// A right finding is true of its sheet, in the words of stakes: under `Coherent` and `Thin` no stakes within the limits, in fractions or
+/// whole, win one minor unit at every final score and lose nothing at any abandonment; under `Coherent` none do under any limits.
+pub fn right_findings_are_true()
+    ensures { RightIsTrue }
 {}

@@ -6,6 +6,7 @@ ghost use Rattle.settlement_definitions.specs.Gain.{gain};
 ghost use Rattle.settlement_definitions.specs.Scores.{HasScoresInRange};
 
 use scan_types::Outcome;
+use settlement_laws::laws::high_scores_go_by_lead;
 
 /// How many outcomes stand for all: 49 scores, each as a final score and at abandonment.
 pub const STAND_INS: u8 = 98;
@@ -96,19 +97,21 @@ fn stand_score(h: u64, a: u64) -> (u64, u64)
     if h <= 7 && a <= 7 - h {
         return (h, a);
     }
-    let step = lead_step(h, a);
-    let home = 1 + (step + step % 2) / 2;
-    (home, 8 + step % 2 - home)
+    prove!({
+        high_scores_go_by_lead();
+        true
+    });
+    score_at(36 + lead_step(h, a))
 }
 
 /// Six more than the home side's lead, which counts as -6 to 6.
-fn lead_step(h: u64, a: u64) -> u64
+fn lead_step(h: u64, a: u64) -> usize
     ensures { result ≡ lead_step h a }
 {
     if h > a {
-        6 + (h - a).min(6)
+        6 + (h - a).min(6) as usize
     } else {
-        6 - (a - h).min(6)
+        6 - (a - h).min(6) as usize
     }
 }
 

@@ -1,5 +1,6 @@
-use Rattle.std.specs.Prelude.{ℕ, ◌+◌, ◌-◌, ◌/◌, ◌%◌, min, Bool, true, false, nat_le, if◌then◌else◌, List, ◌++◌, map}
+use Rattle.std.specs.Prelude.{ℕ, ◌+◌, ◌-◌, min, Bool, true, false, nat_le, if◌then◌else◌, List, [], ◌∷◌, ◌++◌, map}
 use Rattle.std.specs.List.{range_with_len, flat_map}
+use Rattle.std.proofs.Math.ListN.{get_or}
 use Rattle.scan_types.specs.declared.outcome.Outcome.{Outcome}
 use Rattle.scan_types.specs.declared.outcome.Outcome.TheVariants.{Full, Abandoned}
 
@@ -12,18 +13,21 @@ is_final (Abandoned h a) = false
 abbrev pub lead_step : ℕ → ℕ → ℕ
 lead_step h a = min 12 (h + 6 - a)
 
--- the score with such a lead and eight goals, or nine if the lead is odd: the home side's goals
-abbrev pub high_home : ℕ → ℕ
-high_home step = 1 + (step + step % 2) / 2
+-- the scores that stand for those of eight goals or more, by the home side's lead from -6 to 6: of eight goals, or of nine if the lead is odd
+abbrev pub high_scores : List (ℕ × ℕ)
+high_scores =
+    (1, 7) ∷ (2, 7) ∷ (2, 6) ∷ (3, 6) ∷ (3, 5) ∷ (4, 5)
+    ∷ (4, 4)
+    ∷ (5, 4) ∷ (5, 3) ∷ (6, 3) ∷ (6, 2) ∷ (7, 2) ∷ (7, 1) ∷ []
 
--- and the away side's
-abbrev pub high_away : ℕ → ℕ
-high_away step = 8 + step % 2 - high_home step
+-- the one with this lead
+abbrev pub high_score : ℕ → ℕ × ℕ
+high_score step = get_or high_scores step (7, 1)
 
 -- the score that stands for a score: itself up to seven goals, and beyond the one with its lead
 abbrev pub stand_score : ℕ → ℕ → ℕ × ℕ
 stand_score h a =
-    if nat_le (h + a) 7 then (h, a) else (high_home (lead_step h a), high_away (lead_step h a))
+    if nat_le (h + a) 7 then (h, a) else high_score (lead_step h a)
 
 -- the outcome that stands for an outcome
 abbrev pub stand_for : Outcome → Outcome
@@ -36,7 +40,7 @@ scores_of_total t = map (λ h. (h, t - h)) (range_with_len 0 (t + 1))
 
 -- the 49 scores that stand for all: those up to seven goals by total, then the others by lead
 unfoldable pub stand_scores : List (ℕ × ℕ)
-stand_scores = flat_map scores_of_total (range_with_len 0 8) ++ map (λ step. (high_home step, high_away step)) (range_with_len 0 13)
+stand_scores = flat_map scores_of_total (range_with_len 0 8) ++ high_scores
 
 -- the 98 stand-ins: these scores as final ones, and then at abandonment
 unfoldable pub stand_ins : List Outcome

@@ -17,7 +17,8 @@ use Rattle.settlement_definitions.specs.Decided.{exceeds_line}
 use Rattle.settlement_definitions.specs.Abandonment.{leg_at}
 use Rattle.settlement_definitions.specs.Gain.{gain, leg_gain}
 use Rattle.settlement_definitions.proofs.DecidedLemmas.{decided_result-by_goals}
-use Rattle.settlement_definitions.specs.StandIns.{stand_for, stand_score, lead_step, high_home, high_away, is_final}
+use Rattle.settlement_definitions.specs.StandIns.{stand_for, stand_score, lead_step, high_score, is_final}
+use Rattle.settlement_laws.proofs.HighScores.{high_scores_by_lead}
 
 -- a leg within the lines that books offer: handicaps to five goals, totals to seven and a half
 abbrev IsOffered : Selection → ℤ → Type 0
@@ -68,11 +69,12 @@ abbrev SameLead : ℕ → ℕ → ℕ → ℕ → Type 0
 SameLead h a home away =
     (h + away ≡ home + a) ⊎ (((h + 6 ≤ a) × (home + 6 ≤ away)) ⊎ ((a + 6 ≤ h) × (away + 6 ≤ home)))
 
-high_total : (step : ℕ) → step ≤ 12 → 8 ≤ high_home step + high_away step
-high_total step few = omega arith
+high_total : (step : ℕ) → step ≤ 12 → 8 ≤ (high_score step).0 + (high_score step).1
+high_total step few = let by_lead = high_scores_by_lead step few in omega arith
 
-high_same_lead : (h a : ℕ) → SameLead h a (high_home (lead_step h a)) (high_away (lead_step h a))
+high_same_lead : (h a : ℕ) → SameLead h a (high_score (lead_step h a)).0 (high_score (lead_step h a)).1
 high_same_lead h a =
+    let by_lead = high_scores_by_lead (lead_step h a) (omega arith) in
     elim (cases_lt (h + 5) a) [
       | inl behind ↦ inr (inl (omega arith, omega arith))
       | inr near ↦ elim (cases_lt (a + 5) h) [ inl ahead ↦ inr (inr (omega arith, omega arith)) | inr level ↦ inl (omega arith) ]
@@ -116,23 +118,23 @@ exceeds_line-high (Under _) leg h a home away offered m n =
     let f : int_lt leg (pos (4 * (h + a))) ≡ true = grind (arith, ints) in
     e ∙ sym f
 
-stand_score-cases_at : (P : ℕ × ℕ → Type 0) (h a : ℕ) → P (h, a) → (8 ≤ h + a → P (high_home (lead_step h a), high_away (lead_step h a))) → (b : Bool) → nat_le (h + a) 7 ≡ b → P (if b then (h, a) else (high_home (lead_step h a), high_away (lead_step h a)))
+stand_score-cases_at : (P : ℕ × ℕ → Type 0) (h a : ℕ) → P (h, a) → (8 ≤ h + a → P (high_score (lead_step h a))) → (b : Bool) → nat_le (h + a) 7 ≡ b → P (if b then (h, a) else (high_score (lead_step h a)))
 stand_score-cases_at P h a low high true e = low
 stand_score-cases_at P h a low high false e = high (grind (arith, nat_tests))
 
 -- up to seven goals a score stands for itself, and beyond the one with its lead stands for it
-stand_score-cases : (P : ℕ × ℕ → Type 0) (h a : ℕ) → P (h, a) → (8 ≤ h + a → P (high_home (lead_step h a), high_away (lead_step h a))) → P (stand_score h a)
+stand_score-cases : (P : ℕ × ℕ → Type 0) (h a : ℕ) → P (h, a) → (8 ≤ h + a → P (high_score (lead_step h a))) → P (stand_score h a)
 stand_score-cases P h a low high = stand_score-cases_at P h a low high (nat_le (h + a) 7) refl
 
 leg_result-stand_score : (selection : Selection) (leg : ℤ) (h a : ℕ) → IsOffered selection leg → leg_result selection leg (stand_score h a).0 (stand_score h a).1 ≡ leg_result selection leg h a
 leg_result-stand_score selection leg h a offered =
     stand_score-cases (λ s. leg_result selection leg s.0 s.1 ≡ leg_result selection leg h a) h a refl
-    (λ many. leg_result-same_lead selection leg h a (high_home (lead_step h a)) (high_away (lead_step h a)) offered many (high_total (lead_step h a) (omega arith)) (high_same_lead h a))
+    (λ many. leg_result-same_lead selection leg h a (high_score (lead_step h a)).0 (high_score (lead_step h a)).1 offered many (high_total (lead_step h a) (omega arith)) (high_same_lead h a))
 
 exceeds_line-stand_score : (selection : Selection) (leg : ℤ) (h a : ℕ) → IsOffered selection leg → exceeds_line selection leg (stand_score h a).0 (stand_score h a).1 ≡ exceeds_line selection leg h a
 exceeds_line-stand_score selection leg h a offered =
     stand_score-cases (λ s. exceeds_line selection leg s.0 s.1 ≡ exceeds_line selection leg h a) h a refl
-    (λ many. exceeds_line-high selection leg h a (high_home (lead_step h a)) (high_away (lead_step h a)) offered many (high_total (lead_step h a) (omega arith)))
+    (λ many. exceeds_line-high selection leg h a (high_score (lead_step h a)).0 (high_score (lead_step h a)).1 offered many (high_total (lead_step h a) (omega arith)))
 
 -- a leg goes at the stand-in as at each outcome that it stands for
 leg_at-stand_for : (rule : VoidRule) (selection : Selection) (leg : ℤ) (x : Outcome) → IsOffered selection leg → leg_at rule selection leg (stand_for x) ≡ leg_at rule selection leg x

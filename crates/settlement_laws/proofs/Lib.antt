@@ -1,3 +1,4 @@
+mod HighScores
 pub mod Table
 pub mod Cover
 pub mod Sums

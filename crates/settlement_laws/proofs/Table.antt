@@ -11,7 +11,7 @@ use Rattle.std.proofs.lemmas.Bool.Decides.{Decides-and, Decides-by_and}
 use Rattle.std.proofs.lemmas.Option.{slice_get-get_or, slice_get_within, get_or_from_slice_get}
 use Rattle.scan_types.specs.declared.outcome.Outcome.{Outcome}
 use Rattle.scan_types.specs.declared.outcome.Outcome.TheVariants.{Full, Abandoned}
-use Rattle.settlement_definitions.specs.StandIns.{stand_scores, stand_ins, stand_for, stand_score, lead_step, high_home, high_away}
+use Rattle.settlement_definitions.specs.StandIns.{stand_scores, stand_ins, stand_for, stand_score, lead_step, high_score}
 
 pub slice_get-append_left : {X : Type 0} (xs ys : List X) (k : ℕ) (x : X) → slice_get xs k ≡ Some x → slice_get (xs ++ ys) k ≡ Some x
 slice_get-append_left [] ys k x h = cc
@@ -97,7 +97,7 @@ abbrev has_low : ℕ → ℕ → Bool
 has_low t h = list_any (pair_eq (h, t - h)) stand_scores
 
 abbrev has_high : ℕ → Bool
-has_high step = list_any (pair_eq (high_home step, high_away step)) stand_scores
+has_high step = list_any (pair_eq (high_score step)) stand_scores
 
 low_table : all_below (λ t. all_below (has_low t) (t + 1)) 8 ≡ true
 unfolding stand_scores
@@ -116,10 +116,10 @@ low_found h a few =
     found (h, a) stand_scores (subst (λ n. list_any (pair_eq (h, n)) stand_scores ≡ true) same test)
 
 -- every high one too
-high_found : (step : ℕ) → step ≤ 12 → (k : ℕ) × (slice_get stand_scores k ≡ Some (high_home step, high_away step))
-high_found step few = found (high_home step, high_away step) stand_scores (all_below_at has_high 13 step high_table (omega arith))
+high_found : (step : ℕ) → step ≤ 12 → (k : ℕ) × (slice_get stand_scores k ≡ Some (high_score step))
+high_found step few = found (high_score step) stand_scores (all_below_at has_high 13 step high_table (omega arith))
 
-stand_score_found_at : (h a : ℕ) (b : Bool) → nat_le (h + a) 7 ≡ b → (k : ℕ) × (slice_get stand_scores k ≡ Some (if b then (h, a) else (high_home (lead_step h a), high_away (lead_step h a))))
+stand_score_found_at : (h a : ℕ) (b : Bool) → nat_le (h + a) 7 ≡ b → (k : ℕ) × (slice_get stand_scores k ≡ Some (if b then (h, a) else (high_score (lead_step h a))))
 stand_score_found_at h a true e = low_found h a (grind (arith, nat_tests))
 stand_score_found_at h a false e = high_found (lead_step h a) (omega arith)
 

@@ -1,9 +1,9 @@
-use Rattle.std.specs.Prelude.{ℕ, pos, negsuc, ◌≡◌, ◌≤◌, ◌*◌, ◌/◌, ◌+ℤ◌, ◌-ℤ◌, ◌*ℤ◌, ◌≤ℤ◌, ◌⊎◌, ◌↔◌, IsTrue, List, length, All, Contains}
+use Rattle.std.specs.Prelude.{ℕ, pos, negsuc, ◌≡◌, ◌≤◌, ◌+◌, ◌*◌, ◌/◌, ◌%◌, ◌+ℤ◌, ◌-ℤ◌, ◌*ℤ◌, ◌≤ℤ◌, ◌⊎◌, ◌↔◌, IsTrue, List, length, Some, slice_get, All, Contains}
 use Rattle.scan_types.specs.declared.offer.Offer.{Offer}
 use Rattle.scan_types.specs.declared.outcome.Outcome.{Outcome}
 use Rattle.scan_types.specs.declared.outcome.Outcome.TheVariants.{Full}
 use Rattle.settlement_definitions.specs.Gain.{gain, net, slack}
-use Rattle.settlement_definitions.specs.StandIns.{is_final, stand_for, stand_ins}
+use Rattle.settlement_definitions.specs.StandIns.{is_final, high_score, stand_for, stand_ins, stand_scores}
 use Rattle.settlement_definitions.specs.Classes.{SettleAlike, settle_alike, classes_of}
 use Rattle.finding_definitions.specs.Arbitrage.{need, total_net, total_gain}
 use Rattle.finding_definitions.specs.Measure.{IsFinal}
@@ -16,6 +16,16 @@ FinalTestIsExact = (x : Outcome) → IsTrue (is_final x) ↔ IsFinal x
 -- the test of two outcomes is true exactly if they settle the sheet alike
 abbrev pub AlikeTestIsExact : Type 0
 AlikeTestIsExact = (offers : List Offer) (x y : Outcome) → IsTrue (settle_alike offers x y) ↔ SettleAlike offers x y
+
+-- a score that stands for those of eight goals or more has the lead of its place, from -6 to 6, and eight goals, or nine if the lead is odd
+abbrev pub HighScoresByLead : Type 0
+HighScoresByLead =
+    (step : ℕ) → step ≤ 12
+    → ((high_score step).0 + 6 ≡ (high_score step).1 + step) × ((high_score step).0 + (high_score step).1 ≡ 8 + step % 2)
+
+-- these scores are the last 13 of the table
+abbrev pub HighScoresStandLast : Type 0
+HighScoresStandLast = (step : ℕ) → step ≤ 12 → slice_get stand_scores (36 + step) ≡ Some (high_score step)
 
 -- a stand-in is of the kind of each outcome that it stands for, and gives each offer the same gain
 abbrev pub StandInSettlesAlike : Type 0

@@ -1,5 +1,5 @@
 ghost use Rattle.settlement_laws.specs.Laws.{FinalTestIsExact, AlikeTestIsExact};
-ghost use Rattle.settlement_laws.specs.Laws.{StandInSettlesAlike, EachHasStandIn, NetAtEachOutcome, GainAtEachOutcome, EachHasClass};
+ghost use Rattle.settlement_laws.specs.Laws.{HighScoresByLead, HighScoresStandLast, StandInSettlesAlike, EachHasStandIn, NetAtEachOutcome, GainAtEachOutcome, EachHasClass};
 ghost use Rattle.settlement_laws.specs.Laws.{NinetyEightStandIns, FiveGains, SameBetsGainAlike, RaisingOddsLowersNoGain, EachBetCanLose, SlackCoversRounding};
 ghost use Rattle.settlement_laws.specs.Laws.{EqualNeeds, EqualNets, EqualGains, EqualSlacks, NetFromClasses, GainFromClasses, SlackFromClasses};
 
@@ -8,6 +8,13 @@ ghost use Rattle.settlement_laws.specs.Laws.{EqualNeeds, EqualNets, EqualGains, 
 pub fn tests_are_exact()
     ensures of_a_final_score { FinalTestIsExact }
     ensures of_alike_outcomes { AlikeTestIsExact }
+{}
+
+/// Each of the 13 scores that stand for those of eight goals or more has its lead, and eight goals, or nine if the lead is odd. They
+/// are the last 13 of the 49.
+pub fn high_scores_go_by_lead()
+    ensures lead { HighScoresByLead }
+    ensures place { HighScoresStandLast }
 {}
 
 /// A stand-in is of the kind of each outcome that it stands for, and gives each offer the same gain.
