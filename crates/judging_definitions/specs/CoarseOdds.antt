@@ -3,6 +3,7 @@ use Rattle.std.specs.Prelude.{ℕ, ◌+◌, ◌-◌, ◌*◌, ◌/◌, ◌==◌,
 use Rattle.std.specs.List.{enumerate_from, range_with_len, position}
 use Rattle.std.proofs.Common.{arith}
 use Rattle.scan_types.specs.declared.limits.TheConstants.{LEAST_ODDS}
+use Rattle.scan_types.specs.Ranges.{IsOddsRange}
 use Rattle.scan_types.specs.declared.odds.Odds.{Odds}
 use Rattle.scan_types.specs.declared.offer.Offer.{Offer}
 use Rattle.judging_definitions.specs.declared.limits.TheConstants.{COARSE_STEP}
@@ -29,12 +30,13 @@ at_odds offer odds =
       limit_at_most = offer.limit_at_most;
     }
 
+-- odds rounded up are odds
+pub raised_in_range : (odds : Odds) → IsOddsRange (rounded_up odds.thousandths)
+raised_in_range odds = let least = odds.at_least in let most = odds.at_most in (omega arith, omega arith)
+
 -- odds rounded up
-pub raised_odds : Odds → Odds
-raised_odds odds =
-    let least = odds.at_least in
-    let most = odds.at_most in
-    record { thousandths = rounded_up odds.thousandths; at_least = omega arith; at_most = omega arith }
+abbrev pub raised_odds : Odds → Odds
+raised_odds odds = record { thousandths = rounded_up odds.thousandths; at_least = (raised_in_range odds).0; at_most = (raised_in_range odds).1 }
 
 -- the offers of a sheet, each at its odds rounded up
 abbrev pub raised_offers : List Offer → List Offer
@@ -44,11 +46,17 @@ raised_offers offers = map (λ offer. at_odds offer (raised_odds offer.odds)) of
 abbrev pub least_coarse : ℕ
 least_coarse = 1000 + COARSE_STEP
 
--- odds rounded down, and the least coarse odds in place of lower ones, whose offers are left out
-pub lowered_odds : Odds → Odds
-lowered_odds odds =
-    let most = odds.at_most in
-    record { thousandths = least_coarse + (rounded_down odds.thousandths - least_coarse); at_least = omega arith; at_most = omega arith }
+-- the greatest multiple of the step that is at most a number, and the least coarse odds in place of what is below them
+abbrev pub lowered : ℕ → ℕ
+lowered n = least_coarse + (rounded_down n - least_coarse)
+
+-- such numbers are odds
+pub lowered_in_range : (odds : Odds) → IsOddsRange (lowered odds.thousandths)
+lowered_in_range odds = let most = odds.at_most in (omega arith, omega arith)
+
+-- odds rounded down, and the least coarse odds in place of 1.000, which are none: their offers are left out
+abbrev pub lowered_odds : Odds → Odds
+lowered_odds odds = record { thousandths = lowered odds.thousandths; at_least = (lowered_in_range odds).0; at_most = (lowered_in_range odds).1 }
 
 -- whether odds rounded down are above 1.000
 abbrev pub stay_odds : Odds → Bool

@@ -13,4 +13,5 @@ pub mod Gains
 pub mod Directions
 pub mod Limits
 pub mod Parts
+pub mod CoarseOdds
 pub mod RightFindings

@@ -24,7 +24,8 @@ use Rattle.judging_definitions.specs.Columns.{leading_offers}
 use Rattle.judging_definitions.specs.Stakes.{all_numbers, floors}
 use Rattle.judging_definitions.specs.Readings.{HasLevelOne, Reading, Reads, ReadsWide, MeasureReads, DirectionReads, PartsRead, IsDirection}
 use Rattle.judging_definitions.specs.ExactFinding.{AfterReading, IsFoundWithinLimits}
-use Rattle.judging_laws.specs.Laws.{first_stakes, limited_stakes, IsAtBest, first_program}
+use Rattle.judging_definitions.specs.FirstRun.{first_program, first_stakes}
+use Rattle.judging_laws.specs.Laws.{limited_stakes, IsAtBest}
 use Rattle.judging_laws.proofs.KeptReadings.{same_level, same_measure, same_direction, same_parts, same_floors}
 use Rattle.judging_laws.proofs.Directions.{direction_gains}
 use Rattle.coherence_lp.specs.declared.fault.ReadingFault.{ReadingFault}

@@ -4,7 +4,8 @@ ghost use Rattle.settlement_definitions.specs.Classes.{classes_of};
 ghost use Rattle.judging_definitions.specs.Columns.{leading_offers};
 ghost use Rattle.judging_definitions.specs.JudgingPrograms.{limited_program, slack_need};
 ghost use Rattle.judging_definitions.specs.ExactFinding.{IsExactFinding, IsFoundInDirection, IsFoundBySlackRun, IsFoundByPlainRun};
-ghost use Rattle.judging_laws.specs.Laws.{IsAtBest, first_program};
+ghost use Rattle.judging_definitions.specs.FirstRun.{first_program};
+ghost use Rattle.judging_laws.specs.Laws.{IsAtBest};
 ghost use Rattle.verdict_maker.specs.Turns.{FromKept, AfterFirst, AfterSlack, HasSome};
 
 use crate::runs::{Ran, run_program};
