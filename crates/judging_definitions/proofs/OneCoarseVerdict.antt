@@ -14,7 +14,7 @@ use Rattle.judging_definitions.specs.CoarseOdds.{raised_offers, kept_numbers, lo
 use Rattle.judging_definitions.specs.FirstRun.{first_program, first_stakes, FirstRunEndsBest}
 use Rattle.judging_definitions.specs.Stakes.{AreScaledFloors}
 use Rattle.judging_definitions.specs.Readings.{HasLevelOne, Reads, MeasureReads, DirectionReads}
-use Rattle.judging_definitions.specs.CoarseFinding.{FirstOf, IsCoarseMeasure, AreCoarseStakes, IsCoarseVerdict}
+use Rattle.judging_definitions.specs.CoarseFinding.{FirstOf, IsMeasureAt, IsCoarseMeasure, AreStakesInDirection, AreStakesAt, AreCoarseStakes, IsCoarseVerdict}
 use Rattle.judging_definitions.specs.ExactFinding.{IsExactFinding, IsCoarseInstead, IsFindingOf}
 use Rattle.judging_definitions.proofs.OneReading.{measure_reads_one, direction_reads_one, scaled_floors_one}
 use Rattle.judging_definitions.proofs.OneFinding.{exact_finding_one}
@@ -29,51 +29,31 @@ ends_one offers budget a b first second =
 
 -- ---- the verdict, told of the tableau at which the run ends
 
--- a measure of this tableau
-pub record IsMeasureAt (offers : List Offer) (end : SimplexTableau) (finding : Finding) : Type 0 where
-  pub level_zero : HasLevelOne end → ⊥
-  pub measure : List (Outcome × ℕ)
-  pub reads : MeasureReads (classes_of (raised_offers offers)) end (Reads measure)
-  pub is : finding ≡ Coherent measure
-
-pub measure_at : (offers : List Offer) (budget : ℕ) (end : SimplexTableau) (finding : Finding) → FirstRunEndsBest (raised_offers offers) budget end → IsCoarseMeasure offers budget finding → IsMeasureAt offers end finding
-measure_at offers budget end finding ends found =
-    let same = ends_one (raised_offers offers) budget end found.end ends found.ends in
-    subst (λ t. IsMeasureAt offers t finding) same (record { level_zero = found.level_zero; measure = found.measure; reads = found.reads; is = found.is })
-
--- stakes in the direction of this tableau
-pub record AreStakesAt (offers : List Offer) (end : SimplexTableau) (finding : Finding) : Type 0 where
-  pub level_one : HasLevelOne end
-  pub direction : Fractions
-  pub reads : DirectionReads (lowered_offers offers) (first_stakes (lowered_offers offers) end) (Reads direction)
-  pub stakes : List ℕ
-  pub are_scaled : AreScaledFloors offers (with_zeros (kept_numbers offers) direction.parts (length offers)) stakes
-  pub arbitrage : IsArbitrage offers stakes
-  pub is : finding ≡ Arb stakes
+pub measure_at : (offers : List Offer) (budget : ℕ) (end : SimplexTableau) (finding : Finding) → FirstRunEndsBest (raised_offers offers) budget end → IsCoarseMeasure offers budget finding → IsMeasureAt (raised_offers offers) end finding
+measure_at offers budget end finding ends found = subst (λ t. IsMeasureAt (raised_offers offers) t finding) (ends_one (raised_offers offers) budget end found.0 ends found.1) found.2
 
 pub stakes_at : (offers : List Offer) (budget : ℕ) (end : SimplexTableau) (finding : Finding) → FirstRunEndsBest (lowered_offers offers) budget end → AreCoarseStakes offers budget finding → AreStakesAt offers end finding
-stakes_at offers budget end finding ends found =
-    let same = ends_one (lowered_offers offers) budget end found.end ends found.ends in
-    subst (λ t. AreStakesAt offers t finding) same
-    (record { level_one = found.level_one; direction = found.direction; reads = found.reads; stakes = found.stakes; are_scaled = found.are_scaled; arbitrage = found.arbitrage; is = found.is })
+stakes_at offers budget end finding ends found = subst (λ t. AreStakesAt offers t finding) (ends_one (lowered_offers offers) budget end found.0 ends found.1) found.2
 
 -- ---- there is one
 
 measures_one : (offers : List Offer) (end : SimplexTableau) (a b : Finding) → IsMeasureAt offers end a → IsMeasureAt offers end b → a ≡ b
 measures_one offers end a b first second =
-    let same : first.measure ≡ second.measure = (let e = measure_reads_one (classes_of (raised_offers offers)) end (Reads first.measure) (Reads second.measure) first.reads second.reads in cc) in
+    let same : first.measure ≡ second.measure = (let e = measure_reads_one (classes_of offers) end (Reads first.measure) (Reads second.measure) first.reads second.reads in cc) in
     first.is ∙ ap Coherent same ∙ sym second.is
 
--- the same direction has the same stakes
-pub same_stakes : (offers : List Offer) (end : SimplexTableau) (direction : Fractions) (stakes : List ℕ) (finding : Finding) → DirectionReads (lowered_offers offers) (first_stakes (lowered_offers offers) end) (Reads direction) → AreScaledFloors offers (with_zeros (kept_numbers offers) direction.parts (length offers)) stakes → (found : AreStakesAt offers end finding) → found.stakes ≡ stakes
-same_stakes offers end direction stakes finding reads are found =
+in_direction_one : (offers : List Offer) (direction : List ℕ) (a b : Finding) → AreStakesInDirection offers direction a → AreStakesInDirection offers direction b → a ≡ b
+in_direction_one offers direction a b first second = first.is ∙ ap Arb (scaled_floors_one offers direction first.stakes second.stakes first.are_scaled second.are_scaled) ∙ sym second.is
+
+-- where a direction is read, stakes are those in it
+pub in_direction : (offers : List Offer) (end : SimplexTableau) (direction : Fractions) (finding : Finding) → DirectionReads (lowered_offers offers) (first_stakes (lowered_offers offers) end) (Reads direction) → AreStakesAt offers end finding → AreStakesInDirection offers (with_zeros (kept_numbers offers) direction.parts (length offers)) finding
+in_direction offers end direction finding reads found =
     let lowered = lowered_offers offers in
     let same : found.direction ≡ direction = (let e = direction_reads_one lowered (first_stakes lowered end) (Reads found.direction) (Reads direction) found.reads reads in cc) in
-    let there = subst (λ (d : Fractions). AreScaledFloors offers (with_zeros (kept_numbers offers) d.parts (length offers)) found.stakes) same found.are_scaled in
-    scaled_floors_one offers (with_zeros (kept_numbers offers) direction.parts (length offers)) found.stakes stakes there are
+    subst (λ (d : Fractions). AreStakesInDirection offers (with_zeros (kept_numbers offers) d.parts (length offers)) finding) same found.stakes
 
 all_stakes_one : (offers : List Offer) (end : SimplexTableau) (a b : Finding) → AreStakesAt offers end a → AreStakesAt offers end b → a ≡ b
-all_stakes_one offers end a b first second = first.is ∙ ap Arb (sym (same_stakes offers end first.direction first.stakes b first.reads first.are_scaled second)) ∙ sym second.is
+all_stakes_one offers end a b first second = in_direction_one offers (with_zeros (kept_numbers offers) first.direction.parts (length offers)) a b first.stakes (in_direction offers end first.direction b first.reads second)
 
 first_of_one : (first second : Finding → Type 0) → ((a b : Finding) → first a → first b → a ≡ b) → ((a b : Finding) → second a → second b → a ≡ b) → (a b : Finding) → FirstOf first second a → FirstOf first second b → a ≡ b
 first_of_one first second f s a b (inl x) (inl y) = f a b x y
@@ -84,8 +64,8 @@ first_of_one first second f s a b (inr x) (inr y) = s a b x.1 y.1
 coarse_verdict_one : (offers : List Offer) (budget : ℕ) (a b : Finding) → IsCoarseVerdict offers budget a → IsCoarseVerdict offers budget b → a ≡ b
 coarse_verdict_one offers budget =
     first_of_one (IsCoarseMeasure offers budget) (AreCoarseStakes offers budget)
-    (λ a b first second. measures_one offers first.end a b (measure_at offers budget first.end a first.ends first) (measure_at offers budget first.end b first.ends second))
-    (λ a b first second. all_stakes_one offers first.end a b (stakes_at offers budget first.end a first.ends first) (stakes_at offers budget first.end b first.ends second))
+    (λ a b first second. measures_one (raised_offers offers) first.0 a b first.2 (measure_at offers budget first.0 b first.1 second))
+    (λ a b first second. all_stakes_one offers first.0 a b first.2 (stakes_at offers budget first.0 b first.1 second))
 
 -- the finding of a sheet with a budget is one
 pub finding_one : (offers : List Offer) (budget : ℕ) (finding other : Finding) → IsFindingOf offers budget finding → IsFindingOf offers budget other → finding ≡ other

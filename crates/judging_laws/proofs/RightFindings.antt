@@ -234,10 +234,11 @@ exact_finding_right offers budget finding found =
 
 -- ---- coarse odds
 
-coarse_right : (offers : List Offer) (budget : ℕ) (finding : Finding) → IsCoarseVerdict offers budget finding → IsRight offers finding
+pub coarse_right : (offers : List Offer) (budget : ℕ) (finding : Finding) → IsCoarseVerdict offers budget finding → IsRight offers finding
 coarse_right offers budget finding (inl m) =
-    subst (IsRight offers) (sym m.is) (raised_measure_is_right offers m.measure (measure_right (raised_offers offers) budget m.ends.pivots m.end m.measure m.ends.ends m.level_zero m.reads))
-coarse_right offers budget finding (inr (none, s)) = subst (IsRight offers) (sym s.is) s.arbitrage
+    let found = m.2 in
+    subst (IsRight offers) (sym found.is) (raised_measure_is_right offers found.measure (measure_right (raised_offers offers) budget m.1.pivots m.0 found.measure m.1.ends found.level_zero found.reads))
+coarse_right offers budget finding (inr (none, s)) = let found = s.2.stakes in subst (IsRight offers) (sym found.is) found.arbitrage
 
 -- the finding of a sheet with a budget is right
 pub finding_right : (offers : List Offer) (budget : ℕ) (finding : Finding) → IsFindingOf offers budget finding → IsRight offers finding

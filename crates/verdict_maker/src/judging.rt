@@ -8,17 +8,18 @@ ghost use Rattle.judging_definitions.specs.FirstRun.{first_program};
 ghost use Rattle.judging_laws.specs.Laws.{IsAtBest};
 ghost use Rattle.verdict_maker.specs.Turns.{FromKept, AfterFirst, AfterSlack, HasSome};
 
+use crate::first_run::first_run;
 use crate::runs::{Ran, run_program};
 use crate::scaling::scaled_floors;
 use crate::turns::{after_plain_run, says_yes, unread};
 use coherence_lp::{
-    Needs, OfferList, has_level_one, homogeneous, leading, limited, read_direction, read_floors,
+    Needs, OfferList, has_level_one, limited, read_direction, read_floors,
     read_measure,
 };
 use finding_definitions::{Finding, Measure, Parts, Stage};
 use fraction_tableau::Tableau;
 use scan_types::{Sheet, WantOfMemory};
-use settle_classes::{ClassList, classes};
+use settle_classes::ClassList;
 use std::alloc::Global;
 
 /// Step 5: the program with limits and no slack.
@@ -156,14 +157,17 @@ pub fn exact_finding(
 ) -> Result<Finding, WantOfMemory>
     ensures { IfOk result (IsExactFinding sheet.now budget) }
 {
-    let outcomes = classes(alloc, sheet)?;
-    let leading = leading(alloc, sheet, &outcomes)?;
-    let program = homogeneous(alloc, sheet, &outcomes, &leading)?;
-    let ran = run_program(tableau, budget, &program, Stage::First)?;
-    match ran {
+    let first = first_run(alloc, tableau, budget, sheet)?;
+    match first.ran {
         Ran::Open(finding) => Ok(finding),
-        Ran::AtBest(pivots) => {
-            after_first_run(alloc, tableau, budget, sheet, &outcomes, &leading, pivots)
-        }
+        Ran::AtBest(pivots) => after_first_run(
+            alloc,
+            tableau,
+            budget,
+            sheet,
+            &first.classes,
+            &first.leading,
+            pivots,
+        ),
     }
 }

@@ -7,6 +7,8 @@
 #![tactic(auto)]
 
 mod bench;
+mod coarse;
+mod first_run;
 mod judges;
 mod judging;
 mod law;
