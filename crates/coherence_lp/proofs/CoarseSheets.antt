@@ -1,8 +1,8 @@
 -- A sheet's offers at other odds, all of them or some, are a sheet.
-use Rattle.std.proofs.Common.{◌≡◌, ℕ, zero, suc, ◌+◌, ◌-◌, ◌<◌, ◌≤◌, Bool, true, false, cond, Some, None, List, [], ◌∷◌, ◌++◌, length, map, take, drop, filter, refl, sym, ap, ◌∙◌, subst, subst₂, arith, append_assoc, length-append}
+use Rattle.std.proofs.Common.{◌≡◌, ℕ, zero, suc, ◌+◌, ◌-◌, ◌<◌, Bool, true, false, cond, Some, None, List, [], ◌∷◌, ◌++◌, length, map, take, drop, filter, refl, sym, ap, ◌∙◌, subst, subst₂, arith, append_assoc, length-append}
 use Rattle.std.specs.Prelude.{Option, slice_get, slice_index_or, IfSome}
 use Rattle.std.specs.List.{AllPairs, enumerate_from}
-use Rattle.std.proofs.lemmas.List.{length-map, get_or-map, map-append, append-nil, take_more, take-append-drop, get_or_append_left, get_or_at}
+use Rattle.std.proofs.lemmas.List.{length-map, get_or-map, map-append, take_more, take-append-drop, get_or_append_left, get_or_at}
 use Rattle.std.proofs.lemmas.List.FromFn.{length-enumerate_from, get_or-enumerate_from}
 use Rattle.std.proofs.lemmas.List.Elements.{filter_more}
 use Rattle.std.proofs.lemmas.List.Kept.{AllPairs-filter}

@@ -8,13 +8,12 @@ ghost use Rattle.judging_definitions.specs.FirstRun.{first_program};
 ghost use Rattle.judging_laws.specs.Laws.{IsAtBest};
 ghost use Rattle.verdict_maker.specs.Turns.{FromKept, AfterFirst, AfterSlack, HasSome};
 
-use crate::first_run::first_run;
+use crate::first_run::{FirstRun, first_run};
 use crate::runs::{Ran, run_program};
 use crate::scaling::scaled_floors;
 use crate::turns::{after_plain_run, says_yes, unread};
 use coherence_lp::{
-    Needs, OfferList, has_level_one, limited, read_direction, read_floors,
-    read_measure,
+    Needs, OfferList, has_level_one, limited, read_direction, read_floors, read_measure,
 };
 use finding_definitions::{Finding, Measure, Parts, Stage};
 use fraction_tableau::Tableau;
@@ -157,17 +156,15 @@ pub fn exact_finding(
 ) -> Result<Finding, WantOfMemory>
     ensures { IfOk result (IsExactFinding sheet.now budget) }
 {
-    let first = first_run(alloc, tableau, budget, sheet)?;
-    match first.ran {
+    let FirstRun {
+        classes,
+        leading,
+        ran,
+    } = first_run(alloc, tableau, budget, sheet)?;
+    match ran {
         Ran::Open(finding) => Ok(finding),
-        Ran::AtBest(pivots) => after_first_run(
-            alloc,
-            tableau,
-            budget,
-            sheet,
-            &first.classes,
-            &first.leading,
-            pivots,
-        ),
+        Ran::AtBest(pivots) => {
+            after_first_run(alloc, tableau, budget, sheet, &classes, &leading, pivots)
+        }
     }
 }

@@ -16,7 +16,7 @@ mod runs;
 mod scaling;
 mod turns;
 
-pub use bench::{Bench, judge};
+pub use bench::{Bench, coarse_verdict, judge};
 pub use law::FindingLaw;
 
 #[cfg(test)]
