@@ -1,4 +1,4 @@
-//! Writing the report of any feeds: `write_report` gathers its lines in a text of fixed room, which goes to the sink each time it is full. It takes no memory.
+//! Writing the report of any feeds: `write_report` gathers its lines by `text_out` and hands them on in large pieces. It takes no memory.
 //!
 //! - `writing`: the report, its feeds and its matches. `lines`: each line of them. `words`: the words that stand in a line.
 //!

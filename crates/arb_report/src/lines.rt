@@ -2,13 +2,13 @@
 ghost use Rattle.std.specs.Prelude.{◌≡◌};
 ghost use Rattle.report_definitions.specs.Report.{feed_line, refusal_line, offer_line, match_line, pivots_line};
 
-use crate::words::{
-    cause_word, push_field, push_number, push_selection, push_word, rule_word, stop_word,
-};
+use crate::words::{cause_word, stop_word};
+use bet_words::{put_selection, rule_word};
 use feed_definitions::Refusal;
 use odds_fixed::{TextBuf, put_odds};
 use report_definitions::{FeedPart, MatchPart};
 use scan_types::Offer;
+use text_out::{push_field, push_number, push_word};
 
 // The line of the pivots.
 pub(crate) fn pivots_line(pivots: u32) -> TextBuf
@@ -60,7 +60,8 @@ pub(crate) fn offer_line(offer: &Offer) -> TextBuf
     let mut out = TextBuf::new();
     push_word(&mut out, b"offer");
     push_number(&mut out, offer.feed as u64);
-    push_selection(&mut out, offer.selection);
+    push_word(&mut out, b" ");
+    put_selection(&mut out, offer.selection);
     push_word(&mut out, b" ");
     put_odds(&mut out, offer.odds);
     push_number(&mut out, offer.limit as u64);

@@ -1,87 +1,9 @@
-//! The words of a report, and fields at the end of a line.
-ghost use Rattle.std.specs.Prelude.{◌≡◌, ◌≤◌, ◌+◌, ◌∷◌, ◌++◌, length, decimal};
-ghost use Rattle.certificates.specs.Written.{spaced};
-ghost use Rattle.odds_fixed.specs.declared.text_buf.TheConstants.{TEXT_BYTES};
-ghost use Rattle.report_definitions.specs.Words.{rule_text, stop_text, cause_text, selection_fields};
+//! The words of a report that no bet has.
+ghost use Rattle.std.specs.Prelude.{◌≡◌, ◌≤◌, length};
+ghost use Rattle.report_definitions.specs.Words.{stop_text, cause_text};
 
 use board_definitions::FeedStop;
 use feed_definitions::Cause;
-use odds_fixed::{TextBuf, put_handicap, put_number, put_total};
-use scan_types::{Selection, VoidRule};
-
-// Appends a text.
-pub(crate) fn push_word(out: &mut TextBuf, word: &[u8])
-    requires { length out.old + length word.now ≤ TEXT_BYTES }
-    ensures value { out.new ≡ out.old ++ word.now }
-    ensures short { length out.new ≡ length out.old + length word.now }
-{
-    out.push_bytes(word);
-}
-
-// Appends a field after a space.
-pub(crate) fn push_field(out: &mut TextBuf, field: &[u8])
-    requires { length out.old + (1 + length field.now) ≤ TEXT_BYTES }
-    ensures value { out.new ≡ out.old ++ (32 ∷ field.now) }
-    ensures short { length out.new ≡ length out.old + (1 + length field.now) }
-{
-    push_word(out, b" ");
-    push_word(out, field);
-}
-
-// Appends a number after a space.
-pub(crate) fn push_number(out: &mut TextBuf, number: u64)
-    requires { length out.old + 65 ≤ TEXT_BYTES }
-    ensures value { out.new ≡ out.old ++ (32 ∷ decimal number) }
-    ensures short { length out.new ≤ length out.old + 65 }
-{
-    push_word(out, b" ");
-    put_number(out, i128::from(number));
-}
-
-// Appends a selection: its market, its line if the market has lines, and its side, each after a space.
-pub(crate) fn push_selection(out: &mut TextBuf, selection: Selection)
-    requires { length out.old + 80 ≤ TEXT_BYTES }
-    ensures value { out.new ≡ out.old ++ spaced (selection_fields selection) }
-    ensures short { length out.new ≤ length out.old + 80 }
-{
-    match selection {
-        Selection::Home => push_word(out, b" 1x2 home"),
-        Selection::Draw => push_word(out, b" 1x2 draw"),
-        Selection::Away => push_word(out, b" 1x2 away"),
-        Selection::HandicapHome(line) => {
-            push_word(out, b" ah ");
-            put_handicap(out, line);
-            push_word(out, b" home");
-        }
-        Selection::HandicapAway(line) => {
-            push_word(out, b" ah ");
-            put_handicap(out, line);
-            push_word(out, b" away");
-        }
-        Selection::Over(line) => {
-            push_word(out, b" total ");
-            put_total(out, line);
-            push_word(out, b" over");
-        }
-        Selection::Under(line) => {
-            push_word(out, b" total ");
-            put_total(out, line);
-            push_word(out, b" under");
-        }
-    }
-}
-
-// The word of a rule on abandoned matches.
-pub(crate) fn rule_word(rule: VoidRule) -> &'static [u8]
-    ensures value { result.now ≡ rule_text rule }
-    ensures short { length result.now ≤ 7 }
-{
-    match rule {
-        VoidRule::Void => b"void",
-        VoidRule::Score => b"score",
-        VoidRule::Decided => b"decided",
-    }
-}
 
 // The word of how a feed ended.
 pub(crate) fn stop_word(stop: FeedStop) -> &'static [u8]

@@ -4,22 +4,22 @@ ghost use Rattle.std.specs.List.{flat_map, enumerate_from};
 ghost use Rattle.std.specs.Io.KnownBytes.{Appends};
 ghost use Rattle.desk_io.specs.Faults.{Rose};
 ghost use Rattle.desk_io.specs.Sink.{AppendsPrefix};
-ghost use Rattle.certificates.specs.Written.{Wrote, Gathered};
+ghost use Rattle.text_out.specs.Written.{Wrote, Gathered};
 ghost use Rattle.report_definitions.specs.Report.{report_text, pivots_line, feed_line, feed_lines, match_line, refusal_line, offer_line, match_lines, finding_line};
 
 use crate::lines::{feed_line, match_line, offer_line, pivots_line, refusal_line};
-use certificates::{gather, gather_finding, hand_on};
+use certificates::gather_finding;
 use desk_io::{Sink, WriteFailed};
 use feed_definitions::Refusal;
 use finding_definitions::Finding;
-use odds_fixed::TextBuf;
 use report_definitions::{FeedPart, MatchPart, Report};
 use scan_types::Offer;
+use text_out::TextOut;
 
 /// Writes the one text of a report, which is `report_definitions` of the crate of that name. At `Err` a write failed, and some of the text was
 /// written, from its front on, and not all.
 ///
-/// O(text), with a `put_all` for each piece of up to `TEXT_BYTES` bytes of it. Takes no memory of its own.
+/// O(text), with a `put_all` for each piece of `PIECE_BYTES` bytes of it and one for the rest. Takes no memory of its own.
 pub fn write_report<K: Sink>(report: &Report, sink: &mut K) -> Result<(), WriteFailed>
     ensures written { OnOk result (Appends (K.written sink.old) (K.written sink.new) (report_text report.now.pivots report.now.feeds report.now.matches)) }
     ensures cut_short { OnErr result (AppendsPrefix (K.written sink.old) (K.written sink.new) (report_text report.now.pivots report.now.feeds report.now.matches)) }
@@ -34,33 +34,33 @@ pub fn write_report<K: Sink>(report: &Report, sink: &mut K) -> Result<(), WriteF
 fn put_whole<K: Sink>(report: &Report, sink: &mut K) -> Result<(), WriteFailed>
     ensures { Wrote (K.written sink.old) (K.written sink.new) (K.faults sink.old) (K.faults sink.new) (report_text report.now.pivots report.now.feeds report.now.matches) result }
 {
-    let mut held = TextBuf::new();
+    let mut held = TextOut::new();
     put_report(report, &mut held, sink)?;
-    hand_on(&mut held, sink)
+    held.hand_on(sink)
 }
 
 // The whole report.
-fn put_report<K: Sink>(report: &Report, held: &mut TextBuf, sink: &mut K) -> Result<(), WriteFailed>
+fn put_report<K: Sink>(report: &Report, held: &mut TextOut, sink: &mut K) -> Result<(), WriteFailed>
     ensures { Gathered (K.written sink.old) (K.written sink.new) (K.faults sink.old) (K.faults sink.new) held.old held.new (report_text report.now.pivots report.now.feeds report.now.matches) result }
 {
-    gather(b"arbscan report 1\n", held, sink)?;
+    held.gather(b"arbscan report 1\n", sink)?;
     put_pivots(report.pivots, held, sink)?;
     put_feeds(report.feeds.items(), held, sink)?;
     put_matches(report.matches.items(), held, sink)?;
-    gather(b"end\n", held, sink)
+    held.gather(b"end\n", sink)
 }
 
 // The line of the pivots.
-fn put_pivots<K: Sink>(pivots: u32, held: &mut TextBuf, sink: &mut K) -> Result<(), WriteFailed>
+fn put_pivots<K: Sink>(pivots: u32, held: &mut TextOut, sink: &mut K) -> Result<(), WriteFailed>
     ensures { Gathered (K.written sink.old) (K.written sink.new) (K.faults sink.old) (K.faults sink.new) held.old held.new (pivots_line pivots) result }
 {
-    gather(pivots_line(pivots).bytes(), held, sink)
+    held.gather(pivots_line(pivots).bytes(), sink)
 }
 
 // Each feed with its refused lines.
 fn put_feeds<K: Sink>(
     feeds: &[FeedPart],
-    held: &mut TextBuf,
+    held: &mut TextOut,
     sink: &mut K,
 ) -> Result<(), WriteFailed>
     ensures { Gathered (K.written sink.old) (K.written sink.new) (K.faults sink.old) (K.faults sink.new) held.old held.new (flat_map feed_lines (enumerate_from 0 feeds.now)) result }
@@ -75,7 +75,7 @@ fn put_feeds<K: Sink>(
 fn put_feed<K: Sink>(
     number: u64,
     feed: &FeedPart,
-    held: &mut TextBuf,
+    held: &mut TextOut,
     sink: &mut K,
 ) -> Result<(), WriteFailed>
     ensures { Gathered (K.written sink.old) (K.written sink.new) (K.faults sink.old) (K.faults sink.new) held.old held.new (feed_lines (number, feed.now)) result }
@@ -88,19 +88,19 @@ fn put_feed<K: Sink>(
 fn put_feed_line<K: Sink>(
     number: u64,
     feed: &FeedPart,
-    held: &mut TextBuf,
+    held: &mut TextOut,
     sink: &mut K,
 ) -> Result<(), WriteFailed>
     ensures { Gathered (K.written sink.old) (K.written sink.new) (K.faults sink.old) (K.faults sink.new) held.old held.new (feed_line number feed.now) result }
 {
-    gather(feed_line(number, feed).bytes(), held, sink)
+    held.gather(feed_line(number, feed).bytes(), sink)
 }
 
 // Each refused line of a feed.
 fn put_refusals<K: Sink>(
     number: u64,
     refusals: &[Refusal],
-    held: &mut TextBuf,
+    held: &mut TextOut,
     sink: &mut K,
 ) -> Result<(), WriteFailed>
     ensures { Gathered (K.written sink.old) (K.written sink.new) (K.faults sink.old) (K.faults sink.new) held.old held.new (flat_map (refusal_line number) refusals.now) result }
@@ -115,18 +115,18 @@ fn put_refusals<K: Sink>(
 fn put_refusal<K: Sink>(
     number: u64,
     refusal: &Refusal,
-    held: &mut TextBuf,
+    held: &mut TextOut,
     sink: &mut K,
 ) -> Result<(), WriteFailed>
     ensures { Gathered (K.written sink.old) (K.written sink.new) (K.faults sink.old) (K.faults sink.new) held.old held.new (refusal_line number refusal.now) result }
 {
-    gather(refusal_line(number, refusal).bytes(), held, sink)
+    held.gather(refusal_line(number, refusal).bytes(), sink)
 }
 
 // Each match with its offers and its finding.
 fn put_matches<K: Sink>(
     matches: &[MatchPart],
-    held: &mut TextBuf,
+    held: &mut TextOut,
     sink: &mut K,
 ) -> Result<(), WriteFailed>
     ensures { Gathered (K.written sink.old) (K.written sink.new) (K.faults sink.old) (K.faults sink.new) held.old held.new (flat_map match_lines matches.now) result }
@@ -138,7 +138,7 @@ fn put_matches<K: Sink>(
 }
 
 // A match with its offers and its finding.
-fn put_match<K: Sink>(part: &MatchPart, held: &mut TextBuf, sink: &mut K) -> Result<(), WriteFailed>
+fn put_match<K: Sink>(part: &MatchPart, held: &mut TextOut, sink: &mut K) -> Result<(), WriteFailed>
     ensures { Gathered (K.written sink.old) (K.written sink.new) (K.faults sink.old) (K.faults sink.new) held.old held.new (match_lines part.now) result }
 {
     put_match_line(part, held, sink)?;
@@ -149,18 +149,18 @@ fn put_match<K: Sink>(part: &MatchPart, held: &mut TextBuf, sink: &mut K) -> Res
 // The line of a match.
 fn put_match_line<K: Sink>(
     part: &MatchPart,
-    held: &mut TextBuf,
+    held: &mut TextOut,
     sink: &mut K,
 ) -> Result<(), WriteFailed>
     ensures { Gathered (K.written sink.old) (K.written sink.new) (K.faults sink.old) (K.faults sink.new) held.old held.new (match_line part.now) result }
 {
-    gather(match_line(part).bytes(), held, sink)
+    held.gather(match_line(part).bytes(), sink)
 }
 
 // Each offer of a sheet.
 fn put_offers<K: Sink>(
     offers: &[Offer],
-    held: &mut TextBuf,
+    held: &mut TextOut,
     sink: &mut K,
 ) -> Result<(), WriteFailed>
     ensures { Gathered (K.written sink.old) (K.written sink.new) (K.faults sink.old) (K.faults sink.new) held.old held.new (flat_map offer_line offers.now) result }
@@ -172,21 +172,21 @@ fn put_offers<K: Sink>(
 }
 
 // The line of an offer.
-fn put_offer<K: Sink>(offer: &Offer, held: &mut TextBuf, sink: &mut K) -> Result<(), WriteFailed>
+fn put_offer<K: Sink>(offer: &Offer, held: &mut TextOut, sink: &mut K) -> Result<(), WriteFailed>
     ensures { Gathered (K.written sink.old) (K.written sink.new) (K.faults sink.old) (K.faults sink.new) held.old held.new (offer_line offer.now) result }
 {
-    gather(offer_line(offer).bytes(), held, sink)
+    held.gather(offer_line(offer).bytes(), sink)
 }
 
 // The line of a finding.
 fn put_found<K: Sink>(
     finding: &Finding,
-    held: &mut TextBuf,
+    held: &mut TextOut,
     sink: &mut K,
 ) -> Result<(), WriteFailed>
     ensures { Gathered (K.written sink.old) (K.written sink.new) (K.faults sink.old) (K.faults sink.new) held.old held.new (finding_line finding.now) result }
 {
-    gather(b"finding ", held, sink)?;
+    held.gather(b"finding ", sink)?;
     gather_finding(finding, held, sink)?;
-    gather(b"\n", held, sink)
+    held.gather(b"\n", sink)
 }

@@ -18,18 +18,18 @@ use Rattle.board_definitions.proofs.Orders.{IsIn, AreBelow, in_append, in_front,
 use Rattle.board_definitions.proofs.Placed.{IsPlaced, standing_placed, some_injective}
 use Rattle.board_definitions.proofs.Counts.{count_step}
 
-in_cons_option : {X : Type 0} (o : Option X) (rest : List X) (z : X) → IsIn z (cons_option o rest) → (o ≡ Some z) ⊎ IsIn z rest
+pub in_cons_option : {X : Type 0} (o : Option X) (rest : List X) (z : X) → IsIn z (cons_option o rest) → (o ≡ Some z) ⊎ IsIn z rest
 in_cons_option None rest z h = inr h
 in_cons_option (Some x) rest z (inl e) = inl (ap Some (sym e))
 in_cons_option (Some x) rest z (inr h) = inr h
 
-cons_option_has : {X : Type 0} (o : Option X) (rest : List X) (z : X) → (o ≡ Some z) ⊎ IsIn z rest → IsIn z (cons_option o rest)
+pub cons_option_has : {X : Type 0} (o : Option X) (rest : List X) (z : X) → (o ≡ Some z) ⊎ IsIn z rest → IsIn z (cons_option o rest)
 cons_option_has None rest z (inl e) = absurd (cc e)
 cons_option_has None rest z (inr h) = h
 cons_option_has (Some x) rest z (inl e) = inl (sym (some_injective x z e))
 cons_option_has (Some x) rest z (inr h) = inr h
 
-below_cons_option : {X : Type 0} (R : X → X → Type 0) (o : Option X) (rest : List X) → AreBelow R rest → ((x y : X) → o ≡ Some x → IsIn y rest → R x y) → AreBelow R (cons_option o rest)
+pub below_cons_option : {X : Type 0} (R : X → X → Type 0) (o : Option X) (rest : List X) → AreBelow R rest → ((x y : X) → o ≡ Some x → IsIn y rest → R x y) → AreBelow R (cons_option o rest)
 below_cons_option R None rest p h = p
 below_cons_option R (Some x) rest p h = (λ y i. h x y refl i, p)
 
@@ -38,7 +38,7 @@ length_cons_option None rest b h = omega arith
 length_cons_option (Some x) rest b h = let P : Bool → Type 0 = λ t. length (x ∷ rest) ≤ cond t 1 0 + length rest in subst P (sym (h x refl)) (omega arith)
 
 -- what a part of a sheet has
-in_part : (g : ℕ → Option Offer) (a n : ℕ) (z : Offer) → IsIn z (filter_map g (range_with_len a n)) → (k : ℕ) × (a ≤ k) × (k < a + n) × (g k ≡ Some z)
+pub in_part : (g : ℕ → Option Offer) (a n : ℕ) (z : Offer) → IsIn z (filter_map g (range_with_len a n)) → (k : ℕ) × (a ≤ k) × (k < a + n) × (g k ≡ Some z)
 in_part g a zero z h = absurd h
 in_part g a (suc n) z h =
     ⊎_elim
@@ -46,7 +46,7 @@ in_part g a (suc n) z h =
     (λ (later : IsIn z (filter_map g (range_with_len (a + 1) n))). let p = in_part g (a + 1) n z later in (p.0, omega (arith, p.1), omega (arith, p.2), p.3))
     (in_cons_option (g a) (filter_map g (range_with_len (a + 1) n)) z h)
 
-part_has : (g : ℕ → Option Offer) (a n : ℕ) (z : Offer) (k : ℕ) → a ≤ k → k < a + n → g k ≡ Some z → IsIn z (filter_map g (range_with_len a n))
+pub part_has : (g : ℕ → Option Offer) (a n : ℕ) (z : Offer) (k : ℕ) → a ≤ k → k < a + n → g k ≡ Some z → IsIn z (filter_map g (range_with_len a n))
 part_has g a zero z k l u h = absurd (omega arith)
 part_has g a (suc n) z k l u h =
     cons_option_has (g a) (filter_map g (range_with_len (a + 1) n)) z
@@ -55,7 +55,7 @@ part_has g a (suc n) z k l u h =
     (λ (other : a ≡ k → ⊥). inr (part_has g (a + 1) n z k (let w : (k ≡ a → ⊥) = λ e. other (sym e) in grind (arith, w)) (omega (arith, u)) h))
     (cases_eq a k))
 
-part_rises : (g : ℕ → Option Offer) (f : ℕ) → ((n : ℕ) (offer : Offer) → g n ≡ Some offer → IsPlaced f n offer) → (a n : ℕ) → AreBelow IsBelow (filter_map g (range_with_len a n))
+pub part_rises : (g : ℕ → Option Offer) (f : ℕ) → ((n : ℕ) (offer : Offer) → g n ≡ Some offer → IsPlaced f n offer) → (a n : ℕ) → AreBelow IsBelow (filter_map g (range_with_len a n))
 part_rises g f placed a zero = tt
 part_rises g f placed a (suc n) =
     below_cons_option IsBelow (g a) (filter_map g (range_with_len (a + 1) n)) (part_rises g f placed (a + 1) n)
@@ -66,7 +66,7 @@ part_rises g f placed a (suc n) =
     inr (px.feed_is ∙ sym py.feed_is, omega (arith, px.number_is, py.number_is, p.1)))
 
 -- what a sheet has
-in_all : (parts : ℕ → List Offer) (a n : ℕ) (z : Offer) → IsIn z (flat_map parts (range_with_len a n)) → (k : ℕ) × (a ≤ k) × (k < a + n) × IsIn z (parts k)
+pub in_all : (parts : ℕ → List Offer) (a n : ℕ) (z : Offer) → IsIn z (flat_map parts (range_with_len a n)) → (k : ℕ) × (a ≤ k) × (k < a + n) × IsIn z (parts k)
 in_all parts a zero z h = absurd h
 in_all parts a (suc n) z h =
     let split : IsIn z (parts a ++ flat_map parts (range_with_len (a + 1) n)) = subst (IsIn z) (flat_map-cons parts a (range_with_len (a + 1) n)) h in
@@ -75,7 +75,7 @@ in_all parts a (suc n) z h =
     (λ (later : IsIn z (flat_map parts (range_with_len (a + 1) n))). let p = in_all parts (a + 1) n z later in (p.0, omega (arith, p.1), omega (arith, p.2), p.3))
     (in_append (parts a) (flat_map parts (range_with_len (a + 1) n)) z split)
 
-all_has : (parts : ℕ → List Offer) (a n : ℕ) (z : Offer) (k : ℕ) → a ≤ k → k < a + n → IsIn z (parts k) → IsIn z (flat_map parts (range_with_len a n))
+pub all_has : (parts : ℕ → List Offer) (a n : ℕ) (z : Offer) (k : ℕ) → a ≤ k → k < a + n → IsIn z (parts k) → IsIn z (flat_map parts (range_with_len a n))
 all_has parts a zero z k l u h = absurd (omega arith)
 all_has parts a (suc n) z k l u h =
     subst (IsIn z) (sym (flat_map-cons parts a (range_with_len (a + 1) n)))
@@ -85,7 +85,7 @@ all_has parts a (suc n) z k l u h =
     (all_has parts (a + 1) n z k (let w : (k ≡ a → ⊥) = λ e. other (sym e) in grind (arith, w)) (omega (arith, u)) h))
     (cases_eq a k))
 
-all_rise : (parts : ℕ → List Offer) → ((f : ℕ) → AreBelow IsBelow (parts f)) → ((f : ℕ) (z : Offer) → IsIn z (parts f) → z.feed ≡ f) →
+pub all_rise : (parts : ℕ → List Offer) → ((f : ℕ) → AreBelow IsBelow (parts f)) → ((f : ℕ) (z : Offer) → IsIn z (parts f) → z.feed ≡ f) →
     (a n : ℕ) → AreBelow IsBelow (flat_map parts (range_with_len a n))
 all_rise parts rise feeds a zero = tt
 all_rise parts rise feeds a (suc n) =

@@ -36,7 +36,7 @@ not_later : {X : Type 0} (P : ℕ → X → Type 0) (xs : List X) (k j : ℕ) (d
 not_later P xs k j d first second less = first.fails d (second.before k d less)
 
 -- a fact fails first at one place
-one_place : {X : Type 0} (P : ℕ → X → Type 0) (xs : List X) (k j : ℕ) (d : X) → IsFirstFailure P xs k → IsFirstFailure P xs j → k ≡ j
+pub one_place : {X : Type 0} (P : ℕ → X → Type 0) (xs : List X) (k j : ℕ) (d : X) → IsFirstFailure P xs k → IsFirstFailure P xs j → k ≡ j
 one_place P xs k j d first second =
     elim (cases_lt k j) [
       | inl less ↦ absurd (not_later P xs k j d first second less)
@@ -47,27 +47,27 @@ one_place P xs k j d first second =
           ]
     ]
 
-one_offer : (P : ℕ → Offer → Type 0) (offers : List Offer) (k j : ℕ) → IsFirstFailure P offers k → IsFirstFailure P offers j → k ≡ j
+pub one_offer : (P : ℕ → Offer → Type 0) (offers : List Offer) (k j : ℕ) → IsFirstFailure P offers k → IsFirstFailure P offers j → k ≡ j
 one_offer P [] k j first second = let w = first.within in absurd (omega arith)
 one_offer P (o ∷ offers) k j first second = one_place P (o ∷ offers) k j o first second
 
-failed : {X : Type 0} (P : ℕ → X → Type 0) (xs : List X) (k : ℕ) (d : X) → IsFirstFailure P xs k → AllHold P xs → ⊥
+pub failed : {X : Type 0} (P : ℕ → X → Type 0) (xs : List X) (k : ℕ) (d : X) → IsFirstFailure P xs k → AllHold P xs → ⊥
 failed P xs k d first all = first.fails d (all k d first.within)
 
-failed_offer : (P : ℕ → Offer → Type 0) (offers : List Offer) (k : ℕ) → IsFirstFailure P offers k → AllHold P offers → ⊥
+pub failed_offer : (P : ℕ → Offer → Type 0) (offers : List Offer) (k : ℕ) → IsFirstFailure P offers k → AllHold P offers → ⊥
 failed_offer P [] k first all = let w = first.within in omega arith
 failed_offer P (o ∷ offers) k first all = failed P (o ∷ offers) k o first all
 
 nothing : Outcome × ℕ
 nothing = (Full 0 0, 0)
 
-one_measure_fault : (m : List (Outcome × ℕ)) (k j : ℕ) → IsMeasureFault m k → IsMeasureFault m j → k ≡ j
+pub one_measure_fault : (m : List (Outcome × ℕ)) (k j : ℕ) → IsMeasureFault m k → IsMeasureFault m j → k ≡ j
 one_measure_fault m k j (inl first) (inl second) = one_place (IsEntry m) m k j nothing first second
 one_measure_fault m k j (inl first) (inr none) = absurd (failed (IsEntry m) m k nothing first none.0)
 one_measure_fault m k j (inr none) (inl second) = absurd (failed (IsEntry m) m j nothing second none.0)
 one_measure_fault m k j (inr none) (inr other) = none.2 ∙ sym other.2
 
-one_shape_fault : (offers : ℕ) (s : Fractions) (k j : ℕ) → IsShapeFault offers s k → IsShapeFault offers s j → k ≡ j
+pub one_shape_fault : (offers : ℕ) (s : Fractions) (k j : ℕ) → IsShapeFault offers s k → IsShapeFault offers s j → k ≡ j
 one_shape_fault offers s k j (inl count) (inl other) = count.1 ∙ sym other.1
 one_shape_fault offers s k j (inl count) (inr other) = absurd (count.0 other.0)
 one_shape_fault offers s k j (inr count) (inl other) = absurd (other.0 count.0)
@@ -84,7 +84,7 @@ limit_once most offers numbers a b r s =
     r.1 ∙ ap (λ i. NoOffer i (pos (get_or numbers i 0))) (one_offer (IsWithin most numbers) offers r.0 s.0 r.2 s.2) ∙ sym s.1
 
 -- what stands at a place is one element
-one_element : {X : Type 0} (xs : List X) (k j : ℕ) (x y : X) → k ≡ j → slice_get xs k ≡ Some x → slice_get xs j ≡ Some y → x ≡ y
+pub one_element : {X : Type 0} (xs : List X) (k j : ℕ) (x y : X) → k ≡ j → slice_get xs k ≡ Some x → slice_get xs j ≡ Some y → x ≡ y
 one_element xs k j x y same first second = let here : slice_get xs k ≡ slice_get xs j = ap (λ i. slice_get xs i) same in cc
 
 outcome_once : (total : Outcome → ℤ) (a b : Answer) → RefusesOutcome total a → RefusesOutcome total b → a ≡ b

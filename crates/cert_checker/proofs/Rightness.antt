@@ -60,7 +60,7 @@ thin_right offers d parts m shape price within met bound = record {
 }
 
 -- what is passed when a test does not refuse
-passed : {R P L : Type 0} → Tests R P L → (R → ⊥) → P × L
+pub passed : {R P L : Type 0} → Tests R P L → (R → ⊥) → P × L
 passed (inl r) never = absurd (never r)
 passed (inr p) never = p
 
@@ -94,7 +94,7 @@ no_shape_fault offers d parts k shape (inl count) = count.0 shape.count
 no_shape_fault offers d parts k shape (inr (count, inl divisor)) = divisor.0 shape.divisor
 no_shape_fault offers d parts k shape (inr (count, inr (divisor, first))) = first.fails 0 (shape.small k 0 first.within)
 
-no_limit_fault : (most : Offer → ℕ) (offers : List Offer) (numbers : List ℕ) (i : ℕ) → AllZip (λ o n. n ≤ most o) offers numbers → IsFirstFailure (IsWithin most numbers) offers i → ⊥
+pub no_limit_fault : (most : Offer → ℕ) (offers : List Offer) (numbers : List ℕ) (i : ℕ) → AllZip (λ o n. n ≤ most o) offers numbers → IsFirstFailure (IsWithin most numbers) offers i → ⊥
 no_limit_fault most [] numbers i zipped first = let w = first.within in omega arith
 no_limit_fault most (o ∷ offers) numbers i zipped first = first.fails o (within_zip most (o ∷ offers) numbers zipped i o first.within)
 

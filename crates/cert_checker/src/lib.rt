@@ -5,7 +5,7 @@
 //!
 //! - `checking`: `check`, with the tests in their order. `answer`: what it answers.
 //! - `laws`: a finding has one answer.
-//! - `shape`, `limits`, `outcomes`, `means`: the tests.
+//! - `shape`, `limits`, `outcomes`, `means`: the tests, and the sums that the checker of best stakes needs too.
 //!
 //! O(98 * offers) for stakes, O(offers * entries + entries^2) for a measure. Takes no memory.
 #![tactic(auto)]
@@ -13,10 +13,10 @@
 mod answer;
 mod checking;
 pub mod laws;
-mod limits;
-mod means;
-mod outcomes;
-mod shape;
+pub mod limits;
+pub mod means;
+pub mod outcomes;
+pub mod shape;
 mod terms;
 
 pub use answer::{Answer, Checked, Part};

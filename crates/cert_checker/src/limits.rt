@@ -18,7 +18,7 @@ pub(crate) fn stake_above_limit(offers: &[Offer], stakes: &[u32]) -> Option<usiz
 }
 
 /// The place of the first offer whose part is above its limit times the divisor, if there is one.
-pub(crate) fn part_above_limit(offers: &[Offer], parts: &[u64], divisor: u64) -> Option<usize>
+pub fn part_above_limit(offers: &[Offer], parts: &[u64], divisor: u64) -> Option<usize>
     requires count { length parts.now ≡ length offers.now }
     requires divisor { divisor ≤ MOST_PART }
     ensures { Finds (λ i offer. slice_index parts.now i ≤ offer.limit * divisor) offers.now result }

@@ -39,7 +39,7 @@ fn mean(offer: &Offer, entries: &[(Outcome, u64)]) -> i128
 
 /// The most that stakes within the limits can win on average. It stays below 2^126: the limits are at
 /// most 10^8, and there are at most `MOST_OFFERS`.
-pub(crate) fn reach(offers: &[Offer], entries: &[(Outcome, u64)]) -> i128
+pub fn reach(offers: &[Offer], entries: &[(Outcome, u64)]) -> i128
     requires few { length offers.now ≤ MOST_OFFERS }
     requires measure { IsMeasure entries.now }
     ensures { result ≡ reach_of offers.now entries.now }
@@ -62,7 +62,7 @@ fn most_gain(offer: &Offer, entries: &[(Outcome, u64)]) -> i128
 }
 
 /// 2000 times the weight of the final scores. With at most `MOST_MEASURE_ENTRIES` it stays below 2^81.
-pub(crate) fn need_of_unit(entries: &[(Outcome, u64)]) -> i128
+pub fn need_of_unit(entries: &[(Outcome, u64)]) -> i128
     requires { IsMeasure entries.now }
     ensures { result ≡ pos 2000 *ℤ final_weight_of entries.now }
 {

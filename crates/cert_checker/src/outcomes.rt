@@ -72,7 +72,7 @@ fn net(offer: &Offer, stake: u32, outcome: Outcome) -> i128
 }
 
 /// The sum of parts times gains at an outcome. With at most `MOST_OFFERS` parts it stays within 2^89.
-fn total_gain(offers: &[Offer], parts: &[u64], outcome: Outcome) -> i128
+pub fn total_gain(offers: &[Offer], parts: &[u64], outcome: Outcome) -> i128
     requires few { length offers.now ≤ MOST_OFFERS }
     requires count { length parts.now ≡ length offers.now }
     requires small { All (λ part. part ≤ MOST_PART) parts.now }

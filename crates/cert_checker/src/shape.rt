@@ -23,7 +23,7 @@ pub(crate) fn miscount(stakes: usize, offers: usize) -> Option<usize>
 /// What is wrong with the form of fractional stakes on so many offers: the smaller count if there is not one
 /// for each offer, the number of offers if the divisor is 0 or above `MOST_PART`, or the place of the first
 /// part above `MOST_PART`.
-pub(crate) fn shape_fault(offers: usize, stakes: &Parts) -> Option<usize>
+pub fn shape_fault(offers: usize, stakes: &Parts) -> Option<usize>
     ensures fault { MatchOption result (HasShape offers stakes.now) (λ k. IsShapeFault offers stakes.now k) }
     ensures few { IfSome result (λ k. k ≤ offers) }
 {
@@ -51,7 +51,7 @@ fn large_part(parts: &[u64]) -> Option<usize>
 
 /// The place of the first entry that cannot stand in a measure. If all can but none is a final score, the
 /// number of entries. Compares each outcome with those before it: O(entries^2).
-pub(crate) fn measure_fault(entries: &[(Outcome, u64)]) -> Option<usize>
+pub fn measure_fault(entries: &[(Outcome, u64)]) -> Option<usize>
     ensures fault { MatchOption result (IsPriceMeasure entries.now) (λ k. IsMeasureFault entries.now k) }
     ensures few { IfSome result (λ k. k ≤ MOST_MEASURE_ENTRIES) }
 {

@@ -15,9 +15,9 @@ use Rattle.finding_definitions.specs.declared.finding.Finding.{Finding}
 use Rattle.finding_definitions.specs.declared.finding.Finding.TheVariants.{Arb, Coherent, Thin, Narrow, Wide, OutOfPivots}
 use Rattle.finding_definitions.specs.Fractions.{Fractions}
 use Rattle.finding_definitions.specs.Text.{outcome_fields, entry_fields, stake_fields, measure_fields, fraction_fields, stage_number, run_fields, place_fields, finding_text}
-use Rattle.certificates.specs.Written.{spaced}
+use Rattle.text_out.specs.Written.{spaced}
 use Rattle.certificates.specs.Reading.{Read, ◌>>=◌, word_at, starts, number_at, field_at, items_at, counted_at, MOST_SHORT, MOST_LONG, stakes_at, parts_at, pair_at, outcome_at, entry_at, measure_at, bound_at, stage_at, run_at, one_at, place_at, wide_at, made_at, finding_at}
-use Rattle.certificates.proofs.Writes.{join_spaced, spaced-append, pair_shape, one_shape, numbers_shape, number_shape, counted_shape}
+use Rattle.text_out.proofs.Writes.{join_spaced, spaced-append, pair_shape, one_shape, numbers_shape, number_shape, counted_shape}
 use Rattle.certificates.proofs.Readers.{Ends, Reads, Both, Made, Reads-then, Reads-made, Reads-same, Reads-unit, Reads-word, Reads-kind, Heads, head_word, heads_or, Reads-choice, AreItems, some_items, Reads-items, flat_map_leads, then_with}
 use Rattle.certificates.proofs.Numbers.{Reads-number}
 

@@ -17,8 +17,8 @@ use Rattle.finding_definitions.specs.declared.finding.Finding.TheVariants.{Arb, 
 use Rattle.finding_definitions.specs.Fractions.{Fractions}
 use Rattle.finding_definitions.specs.Text.{outcome_fields, entry_fields, stake_fields, measure_fields, fraction_fields, stage_number, run_fields, place_fields, finding_text}
 use Rattle.finding_definitions.specs.Readable.{IsShort, IsLong, AreReadableParts, IsReadableOutcome, IsReadableMeasure, IsReadablePlace, IsReadable, IsFaultAt}
-use Rattle.certificates.specs.Written.{spaced}
-use Rattle.certificates.proofs.Writes.{join_spaced, spaced-append, pair_shape, one_shape, numbers_shape, number_shape, counted_shape}
+use Rattle.text_out.specs.Written.{spaced}
+use Rattle.text_out.proofs.Writes.{join_spaced, spaced-append, pair_shape, one_shape, numbers_shape, number_shape, counted_shape}
 use Rattle.certificates.proofs.Findings.{field_text}
 
 field_short : (n : ℕ) → IsLong n → length (field_text n) ≤ 21

@@ -1,4 +1,3 @@
-pub mod Writes
 pub mod Readers
 pub mod Numbers
 pub mod Findings

@@ -5,19 +5,18 @@ ghost use Rattle.std.specs.Io.KnownBytes.{Appends};
 ghost use Rattle.desk_io.specs.Faults.{Rose};
 ghost use Rattle.desk_io.specs.Sink.{AppendsPrefix};
 ghost use Rattle.finding_definitions.specs.Text.{outcome_fields, entry_fields, stake_fields, measure_fields, fraction_fields, stage_number, run_fields, place_fields, finding_text};
-ghost use Rattle.certificates.specs.Written.{Wrote, Gathered, spaced};
+ghost use Rattle.text_out.specs.Written.{Wrote, Gathered, spaced};
 
-use crate::gathering::{gather, hand_on};
 use desk_io::{Sink, WriteFailed};
 use finding_definitions::{Finding, Measure, Parts, Stage, Stakes, WideAt};
 use itoa::Buffer;
-use odds_fixed::TextBuf;
 use scan_types::Outcome;
+use text_out::TextOut;
 
 /// Writes the one text of a finding, which is `finding_text` of `finding_definitions`, without a line feed. At `Err` a write
 /// failed, and some of the text was written, from its front on, and not all.
 ///
-/// O(text), with a `put_all` for each piece of up to `TEXT_BYTES` bytes. Takes no memory of its own.
+/// O(text), with a `put_all` for each piece of `PIECE_BYTES` bytes and one for the rest. Takes no memory of its own.
 pub fn put_finding<K: Sink>(finding: &Finding, sink: &mut K) -> Result<(), WriteFailed>
     ensures written { OnOk result (Appends (K.written sink.old) (K.written sink.new) (finding_text finding.now)) }
     ensures cut_short { OnErr result (AppendsPrefix (K.written sink.old) (K.written sink.new) (finding_text finding.now)) }
@@ -32,64 +31,64 @@ pub fn put_finding<K: Sink>(finding: &Finding, sink: &mut K) -> Result<(), Write
 fn put_whole<K: Sink>(finding: &Finding, sink: &mut K) -> Result<(), WriteFailed>
     ensures { Wrote (K.written sink.old) (K.written sink.new) (K.faults sink.old) (K.faults sink.new) (finding_text finding.now) result }
 {
-    let mut held = TextBuf::new();
+    let mut held = TextOut::new();
     gather_finding(finding, &mut held, sink)?;
-    hand_on(&mut held, sink)
+    held.hand_on(sink)
 }
 
-/// Puts the one text of a finding behind the text that is held, which is handed on each time it has no room for the next piece. So
-/// the texts of several calls go out in the same writes.
+/// Puts the one text of a finding behind the text that is held, which is handed on each time it is full. So the texts of several calls
+/// go out in the same writes.
 ///
-/// O(text), with a `put_all` for each piece of up to `TEXT_BYTES` bytes. Takes no memory of its own.
+/// O(text), with a `put_all` for each piece of `PIECE_BYTES` bytes. Takes no memory of its own.
 pub fn gather_finding<K: Sink>(
     finding: &Finding,
-    held: &mut TextBuf,
+    held: &mut TextOut,
     sink: &mut K,
 ) -> Result<(), WriteFailed>
     ensures { Gathered (K.written sink.old) (K.written sink.new) (K.faults sink.old) (K.faults sink.new) held.old held.new (finding_text finding.now) result }
 {
     match finding {
         Finding::Arb(stakes) => {
-            gather(b"arb", held, sink)?;
+            held.gather(b"arb", sink)?;
             put_stakes(stakes, held, sink)
         }
         Finding::Coherent(measure) => {
-            gather(b"coherent", held, sink)?;
+            held.gather(b"coherent", sink)?;
             put_measure(measure, held, sink)
         }
         Finding::Thin(parts, measure) => {
-            gather(b"thin", held, sink)?;
+            held.gather(b"thin", sink)?;
             put_bound(parts, measure, held, sink)
         }
         Finding::Narrow(parts, measure) => {
-            gather(b"narrow", held, sink)?;
+            held.gather(b"narrow", sink)?;
             put_bound(parts, measure, held, sink)
         }
         Finding::Wide { stage, pivots, at } => {
-            gather(b"wide", held, sink)?;
+            held.gather(b"wide", sink)?;
             put_wide(*stage, *pivots, *at, held, sink)
         }
         Finding::OutOfPivots { stage, pivots } => {
-            gather(b"out-of-pivots", held, sink)?;
+            held.gather(b"out-of-pivots", sink)?;
             put_run(*stage, *pivots, held, sink)
         }
     }
 }
 
 // A space and the number.
-fn put_number<K: Sink>(number: u64, held: &mut TextBuf, sink: &mut K) -> Result<(), WriteFailed>
+fn put_number<K: Sink>(number: u64, held: &mut TextOut, sink: &mut K) -> Result<(), WriteFailed>
     ensures { Gathered (K.written sink.old) (K.written sink.new) (K.faults sink.old) (K.faults sink.new) held.old held.new (32 ∷ decimal number) result }
 {
     let mut buffer = Buffer::new();
-    gather(b" ", held, sink)?;
-    gather(buffer.format(number).as_bytes(), held, sink)
+    held.gather(b" ", sink)?;
+    held.gather(buffer.format(number).as_bytes(), sink)
 }
 
 // Two numbers, each after a space.
 fn put_pair<K: Sink>(
     first: u64,
     second: u64,
-    held: &mut TextBuf,
+    held: &mut TextOut,
     sink: &mut K,
 ) -> Result<(), WriteFailed>
     ensures { Gathered (K.written sink.old) (K.written sink.new) (K.faults sink.old) (K.faults sink.new) held.old held.new ((32 ∷ decimal first) ++ (32 ∷ decimal second)) result }
@@ -99,7 +98,7 @@ fn put_pair<K: Sink>(
 }
 
 // How many stakes there are, and the stakes.
-fn put_stakes<K: Sink>(stakes: &Stakes, held: &mut TextBuf, sink: &mut K) -> Result<(), WriteFailed>
+fn put_stakes<K: Sink>(stakes: &Stakes, held: &mut TextOut, sink: &mut K) -> Result<(), WriteFailed>
     ensures { Gathered (K.written sink.old) (K.written sink.new) (K.faults sink.old) (K.faults sink.new) held.old held.new (spaced (stake_fields stakes.now)) result }
 {
     let items = stakes.items();
@@ -110,7 +109,7 @@ fn put_stakes<K: Sink>(stakes: &Stakes, held: &mut TextBuf, sink: &mut K) -> Res
 // Numbers, each after a space.
 fn put_short_items<K: Sink>(
     items: &[u32],
-    held: &mut TextBuf,
+    held: &mut TextOut,
     sink: &mut K,
 ) -> Result<(), WriteFailed>
     ensures { Gathered (K.written sink.old) (K.written sink.new) (K.faults sink.old) (K.faults sink.new) held.old held.new (flat_map (λ item. 32 ∷ decimal item) items.now) result }
@@ -125,7 +124,7 @@ fn put_short_items<K: Sink>(
 fn put_bound<K: Sink>(
     parts: &Parts,
     measure: &Measure,
-    held: &mut TextBuf,
+    held: &mut TextOut,
     sink: &mut K,
 ) -> Result<(), WriteFailed>
     ensures { Gathered (K.written sink.old) (K.written sink.new) (K.faults sink.old) (K.faults sink.new) held.old held.new (spaced (fraction_fields parts.now ++ measure_fields measure.now)) result }
@@ -135,7 +134,7 @@ fn put_bound<K: Sink>(
 }
 
 // The divisor, how many parts there are, and the parts.
-fn put_parts<K: Sink>(parts: &Parts, held: &mut TextBuf, sink: &mut K) -> Result<(), WriteFailed>
+fn put_parts<K: Sink>(parts: &Parts, held: &mut TextOut, sink: &mut K) -> Result<(), WriteFailed>
     ensures { Gathered (K.written sink.old) (K.written sink.new) (K.faults sink.old) (K.faults sink.new) held.old held.new (spaced (fraction_fields parts.now)) result }
 {
     let items = parts.items();
@@ -146,7 +145,7 @@ fn put_parts<K: Sink>(parts: &Parts, held: &mut TextBuf, sink: &mut K) -> Result
 // Numbers, each after a space.
 fn put_long_items<K: Sink>(
     items: &[u64],
-    held: &mut TextBuf,
+    held: &mut TextOut,
     sink: &mut K,
 ) -> Result<(), WriteFailed>
     ensures { Gathered (K.written sink.old) (K.written sink.new) (K.faults sink.old) (K.faults sink.new) held.old held.new (flat_map (λ item. 32 ∷ decimal item) items.now) result }
@@ -160,7 +159,7 @@ fn put_long_items<K: Sink>(
 // How many entries there are, and each outcome with its weight.
 fn put_measure<K: Sink>(
     measure: &Measure,
-    held: &mut TextBuf,
+    held: &mut TextOut,
     sink: &mut K,
 ) -> Result<(), WriteFailed>
     ensures { Gathered (K.written sink.old) (K.written sink.new) (K.faults sink.old) (K.faults sink.new) held.old held.new (spaced (measure_fields measure.now)) result }
@@ -173,7 +172,7 @@ fn put_measure<K: Sink>(
 // Outcomes, each with its weight.
 fn put_entries<K: Sink>(
     entries: &[(Outcome, u64)],
-    held: &mut TextBuf,
+    held: &mut TextOut,
     sink: &mut K,
 ) -> Result<(), WriteFailed>
     ensures { Gathered (K.written sink.old) (K.written sink.new) (K.faults sink.old) (K.faults sink.new) held.old held.new (flat_map (λ entry. spaced (entry_fields entry)) entries.now) result }
@@ -187,7 +186,7 @@ fn put_entries<K: Sink>(
 // An outcome with its weight.
 fn put_entry<K: Sink>(
     entry: &(Outcome, u64),
-    held: &mut TextBuf,
+    held: &mut TextOut,
     sink: &mut K,
 ) -> Result<(), WriteFailed>
     ensures { Gathered (K.written sink.old) (K.written sink.new) (K.faults sink.old) (K.faults sink.new) held.old held.new (spaced (entry_fields entry.now)) result }
@@ -199,18 +198,18 @@ fn put_entry<K: Sink>(
 // How the match ends and its goals.
 fn put_outcome<K: Sink>(
     outcome: Outcome,
-    held: &mut TextBuf,
+    held: &mut TextOut,
     sink: &mut K,
 ) -> Result<(), WriteFailed>
     ensures { Gathered (K.written sink.old) (K.written sink.new) (K.faults sink.old) (K.faults sink.new) held.old held.new (spaced (outcome_fields outcome)) result }
 {
     match outcome {
         Outcome::Full(home, away) => {
-            gather(b" full", held, sink)?;
+            held.gather(b" full", sink)?;
             put_pair(home, away, held, sink)
         }
         Outcome::Abandoned(home, away) => {
-            gather(b" abandoned", held, sink)?;
+            held.gather(b" abandoned", sink)?;
             put_pair(home, away, held, sink)
         }
     }
@@ -221,7 +220,7 @@ fn put_wide<K: Sink>(
     stage: Stage,
     pivots: u32,
     place: WideAt,
-    held: &mut TextBuf,
+    held: &mut TextOut,
     sink: &mut K,
 ) -> Result<(), WriteFailed>
     ensures { Gathered (K.written sink.old) (K.written sink.new) (K.faults sink.old) (K.faults sink.new) held.old held.new (spaced (run_fields stage pivots ++ place_fields place)) result }
@@ -234,7 +233,7 @@ fn put_wide<K: Sink>(
 fn put_run<K: Sink>(
     stage: Stage,
     pivots: u32,
-    held: &mut TextBuf,
+    held: &mut TextOut,
     sink: &mut K,
 ) -> Result<(), WriteFailed>
     ensures { Gathered (K.written sink.old) (K.written sink.new) (K.faults sink.old) (K.faults sink.new) held.old held.new (spaced (run_fields stage pivots)) result }
@@ -254,20 +253,20 @@ fn number_of(stage: Stage) -> u64
 }
 
 // Where a number left its range.
-fn put_place<K: Sink>(place: WideAt, held: &mut TextBuf, sink: &mut K) -> Result<(), WriteFailed>
+fn put_place<K: Sink>(place: WideAt, held: &mut TextOut, sink: &mut K) -> Result<(), WriteFailed>
     ensures { Gathered (K.written sink.old) (K.written sink.new) (K.faults sink.old) (K.faults sink.new) held.old held.new (spaced (place_fields place)) result }
 {
     match place {
         WideAt::Entry { row, column } => {
-            gather(b" entry", held, sink)?;
+            held.gather(b" entry", sink)?;
             put_pair(row as u64, column as u64, held, sink)
         }
         WideAt::Weight(entry) => {
-            gather(b" weight", held, sink)?;
+            held.gather(b" weight", sink)?;
             put_number(entry as u64, held, sink)
         }
         WideAt::Stake(offer) => {
-            gather(b" stake", held, sink)?;
+            held.gather(b" stake", sink)?;
             put_number(offer as u64, held, sink)
         }
     }

@@ -17,14 +17,15 @@ use Rattle.feed_definitions.specs.declared.header.Header.{Header}
 use Rattle.feed_definitions.specs.declared.request.Request.{Request}
 use Rattle.feed_definitions.specs.declared.request.Action.{Action}
 use Rattle.feed_definitions.specs.declared.request.Action.TheVariants.{Quotes, Withdraws}
-use Rattle.feed_definitions.specs.declared.request.Market.{Market}
+use Rattle.bet_definitions.specs.declared.market.Market.{Market}
+use Rattle.bet_definitions.specs.Bets.{market_words}
 use Rattle.feed_definitions.specs.declared.request.LineForm.{LineForm}
 use Rattle.feed_definitions.specs.declared.request.LineForm.TheVariants as form
 use Rattle.feed_definitions.specs.declared.step.Step.{Step}
 use Rattle.feed_definitions.specs.declared.step.Step.TheVariants as step
 use Rattle.feed_definitions.specs.Lines.{answered_lines, is_cut}
 use Rattle.feed_definitions.specs.Fields.{Field, Unread, fields, and_then, at_column, first_field, next, next_at, nothing_in, no_more}
-use Rattle.feed_definitions.specs.Forms.{without_return, ascii_or, read_ascii, is_too_long, is_skipped, form_read, header_of, line_form, request_form, selection_form, change_form, limit_value, odds_value, name_value, one_of, action_words, market_words}
+use Rattle.feed_definitions.specs.Forms.{without_return, ascii_or, read_ascii, is_too_long, is_skipped, form_read, header_of, line_form, request_form, selection_form, change_form, limit_value, odds_value, name_value, one_of, action_words}
 use Rattle.feed_definitions.specs.Standing.{refused_for}
 use Rattle.feed_definitions.specs.Feed.{refusal, request_step, form_step, line_answer, accepted_in, line_steps, feed_steps, ending, steps}
 use Rattle.feed_definitions.proofs.Walk.{accepted_first}

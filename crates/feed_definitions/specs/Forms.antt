@@ -1,18 +1,22 @@
--- The forms of lines. The words that may stand in a field are tables; a form is its fields from left to right, each with its test.
+-- The forms of lines: a form is its fields from left to right, each with its test. The words of a bet stand in `bet_definitions`.
 use Rattle.std.specs.Prelude.{ℕ, ◌+◌, ◌-◌, Bool, true, not, ◌==◌, ◌&&◌, ◌||◌, nat_lt, nat_le, List, [], ◌∷◌, length, take, slice_index_or, Option, Some, None, Result, Ok, Err, codes, if◌then◌else◌}
 use Rattle.std.specs.List.{position}
-use Rattle.std.specs.Str.{bytes_eq}
+use Rattle.std.specs.Option.{ok_or}
 use Rattle.scan_types.specs.declared.limits.TheConstants.{MOST_LINE_BYTES}
 use Rattle.scan_types.specs.declared.odds.Odds.{Odds}
 use Rattle.scan_types.specs.declared.line.HandicapLine.{HandicapLine}
 use Rattle.scan_types.specs.declared.line.TotalLine.{TotalLine}
 use Rattle.scan_types.specs.declared.selection.Selection.{Selection}
-use Rattle.scan_types.specs.declared.selection.Selection.TheVariants.{Home, Draw, Away, HandicapHome, HandicapAway, Over, Under}
-use Rattle.scan_types.specs.declared.rule.VoidRule.{VoidRule}
-use Rattle.scan_types.specs.declared.rule.VoidRule.TheVariants.{Void, Score, Decided}
 use Rattle.scan_types.specs.Names.{is_name_text}
 use Rattle.number_definitions.specs.Readings.{thousandths_of, limit_of, quarters_of}
 use Rattle.number_definitions.specs.Values.{odds_with, limit_with, handicap_with, total_with, in_range}
+use Rattle.bet_definitions.specs.declared.market.Market.{Market}
+use Rattle.bet_definitions.specs.declared.market.LineKind.{LineKind}
+use Rattle.bet_definitions.specs.declared.market.LineKind.TheVariants as kind
+use Rattle.bet_definitions.specs.declared.market.BetLine.{BetLine}
+use Rattle.bet_definitions.specs.declared.market.BetLine.TheVariants as at
+use Rattle.bet_definitions.specs.Tables.{value_of}
+use Rattle.bet_definitions.specs.Bets.{rule_words, market_words, line_kind, side_words}
 use Rattle.feed_definitions.specs.declared.cause.Cause.{Cause}
 use Rattle.feed_definitions.specs.declared.cause.Cause.TheVariants as cause
 use Rattle.feed_definitions.specs.declared.cause.Fault.{Fault}
@@ -21,8 +25,6 @@ use Rattle.feed_definitions.specs.declared.accepted.Change.{Change}
 use Rattle.feed_definitions.specs.declared.accepted.Change.TheVariants.{Quote, Withdraw}
 use Rattle.feed_definitions.specs.declared.request.Action.{Action}
 use Rattle.feed_definitions.specs.declared.request.Action.TheVariants.{Quotes, Withdraws}
-use Rattle.feed_definitions.specs.declared.request.Market.{Market}
-use Rattle.feed_definitions.specs.declared.request.Market.TheVariants.{OnResult, OnHandicap, OnTotal}
 use Rattle.feed_definitions.specs.declared.request.Request.{Request}
 use Rattle.feed_definitions.specs.declared.request.LineForm.{LineForm}
 use Rattle.feed_definitions.specs.declared.request.LineForm.TheVariants.{Skipped, Wrong, Asks}
@@ -32,8 +34,7 @@ use Rattle.feed_definitions.specs.Fields.{Field, fields, Reader, ◌>>=◌, give
 
 -- one of the words of a table, as what it stands for
 abbrev pub one_of : {A : Type 0} → List (List ℕ × A) → List ℕ → Result A Cause
-one_of [] text = Err cause.UnknownWord
-one_of (entry ∷ others) text = if bytes_eq text entry.0 then Ok entry.1 else one_of others text
+one_of table text = ok_or (value_of table text) cause.UnknownWord
 
 abbrev pub name_value : List ℕ → Result (List ℕ) Cause
 name_value text = if is_name_text text then Ok text else Err cause.BadName
@@ -58,23 +59,8 @@ feed_words = (codes "feed", tt) ∷ []
 abbrev pub version_words : List (List ℕ × Unit {0})
 version_words = (codes "1", tt) ∷ []
 
-abbrev pub rule_words : List (List ℕ × VoidRule)
-rule_words = (codes "void", Void) ∷ (codes "score", Score) ∷ (codes "decided", Decided) ∷ []
-
 abbrev pub action_words : List (List ℕ × Action)
 action_words = (codes "quote", Quotes) ∷ (codes "withdraw", Withdraws) ∷ []
-
-abbrev pub market_words : List (List ℕ × Market)
-market_words = (codes "1x2", OnResult) ∷ (codes "ah", OnHandicap) ∷ (codes "total", OnTotal) ∷ []
-
-abbrev pub result_words : List (List ℕ × Selection)
-result_words = (codes "home", Home) ∷ (codes "draw", Draw) ∷ (codes "away", Away) ∷ []
-
-abbrev pub handicap_words : HandicapLine → List (List ℕ × Selection)
-handicap_words line = (codes "home", HandicapHome line) ∷ (codes "away", HandicapAway line) ∷ []
-
-abbrev pub total_words : TotalLine → List (List ℕ × Selection)
-total_words line = (codes "over", Over line) ∷ (codes "under", Under line) ∷ []
 
 -- the forms
 
@@ -87,15 +73,21 @@ header_form = do
   rule ← next (one_of rule_words)
   give (record { book = book; rule = rule })
 
--- after the market: SIDE of the result, or LINE SIDE
-unfoldable pub selection_form : Market → Reader Selection
-selection_form OnResult = next (one_of result_words)
-selection_form OnHandicap = do
+-- the line of a bet, and nothing if its market has no lines
+unfoldable pub bet_line_form : LineKind → Reader BetLine
+bet_line_form kind.NoLine = give at.NoLine
+bet_line_form kind.Handicap = do
   line ← next handicap_value
-  next (one_of (handicap_words line))
-selection_form OnTotal = do
+  give (at.Handicap line)
+bet_line_form kind.Total = do
   line ← next total_value
-  next (one_of (total_words line))
+  give (at.Total line)
+
+-- after the market: LINE SIDE, or SIDE if the market has no lines
+unfoldable pub selection_form : Market → Reader Selection
+selection_form market = do
+  line ← bet_line_form (line_kind market)
+  next (one_of (side_words market line))
 
 -- after the selection: ODDS LIMIT of a quote, and nothing of a withdrawal
 unfoldable pub change_form : Action → Reader Change

@@ -25,5 +25,5 @@ pub use laws::{
     steps_before_stay, the_ending_follows_the_lines,
 };
 pub use refusals::Refusals;
-pub use request::{Action, LineForm, Market, Request};
+pub use request::{Action, LineForm, Request};
 pub use step::Step;

@@ -11,17 +11,6 @@ pub enum Action {
     Withdraws,
 }
 
-/// The word that says on what a line bets.
-#[derive(Clone, Copy, Debug, PartialEq, Eq)]
-pub enum Market {
-    /// `1x2`: the result of the match.
-    OnResult,
-    /// `ah`: the result after an Asian handicap.
-    OnHandicap,
-    /// `total`: the total goals.
-    OnTotal,
-}
-
 /// What a well-formed line asks for. Whether it is accepted depends on what stands in the feed.
 #[derive(Clone, Copy, Debug, PartialEq, Eq)]
 pub struct Request {

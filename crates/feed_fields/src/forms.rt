@@ -1,15 +1,15 @@
 //! The forms of lines: their fields from left to right.
 ghost use Rattle.std.specs.Prelude.{◌≡◌, IfOk};
 ghost use Rattle.feed_fields.specs.Tests.{HasLimitInRange};
-ghost use Rattle.feed_definitions.specs.Forms.{header_form, selection_form, change_form, request_form};
+ghost use Rattle.feed_definitions.specs.Forms.{header_form, bet_line_form, selection_form, change_form, request_form};
 
 use crate::fields::Fields;
 use crate::readers::{
-    next_action, next_feed, next_handicap, next_handicap_side, next_limit, next_market, next_name,
-    next_odds, next_placed_name, next_result_side, next_rule, next_total, next_total_side,
-    next_version,
+    next_action, next_feed, next_handicap, next_limit, next_market, next_name, next_odds,
+    next_placed_name, next_rule, next_side, next_total, next_version,
 };
-use feed_definitions::{Action, Change, Fault, Header, Market, Request};
+use bet_words::{BetLine, LineKind, Market, line_kind};
+use feed_definitions::{Action, Change, Fault, Header, Request};
 use scan_types::Selection;
 
 /// feed 1 BOOK RULE.
@@ -24,22 +24,31 @@ pub fn header_form<'a>(fields: Fields<'a>) -> Result<(Header, Fields<'a>), Fault
     Ok((Header { book, rule }, fields))
 }
 
-// SIDE of the result, or LINE SIDE.
+// The line of a bet, and nothing if its market has no lines.
+#[tactic(auto, unfolding(feed_definitions::specs::Forms::bet_line_form))]
+fn bet_line_form<'a>(fields: Fields<'a>, kind: LineKind) -> Result<(BetLine, Fields<'a>), Fault>
+    ensures { result ≡ bet_line_form kind fields.entry }
+{
+    match kind {
+        LineKind::NoLine => Ok((BetLine::NoLine, fields)),
+        LineKind::Handicap => {
+            let (line, fields) = next_handicap(fields)?;
+            Ok((BetLine::Handicap(line), fields))
+        }
+        LineKind::Total => {
+            let (line, fields) = next_total(fields)?;
+            Ok((BetLine::Total(line), fields))
+        }
+    }
+}
+
+// LINE SIDE, or SIDE if the market has no lines.
 #[tactic(auto, unfolding(feed_definitions::specs::Forms::selection_form))]
 fn selection_form<'a>(fields: Fields<'a>, market: Market) -> Result<(Selection, Fields<'a>), Fault>
     ensures { result ≡ selection_form market fields.entry }
 {
-    match market {
-        Market::OnResult => next_result_side(fields),
-        Market::OnHandicap => {
-            let (line, fields) = next_handicap(fields)?;
-            next_handicap_side(fields, line)
-        }
-        Market::OnTotal => {
-            let (line, fields) = next_total(fields)?;
-            next_total_side(fields, line)
-        }
-    }
+    let (line, fields) = bet_line_form(fields, line_kind(market))?;
+    next_side(fields, market, line)
 }
 
 // ODDS LIMIT of a quote, and nothing of a withdrawal.

@@ -2,7 +2,7 @@
 //!
 //! - `line`: the header, and any other line; `forms`: which fields they have, in order.
 //! - `readers`: one function a field, which reads the next field by its test.
-//! - `words`, `values`: the tests of a field's bytes.
+//! - `values`, `words`: the tests of a field's bytes.
 //! - `fields`: what is still to be read of a line, and its next field.
 //!
 //! A line is never copied: a field is a slice of it. Each call costs time in the bytes of its line, and takes no memory.

@@ -2,16 +2,18 @@
 ghost use Rattle.std.specs.Prelude.{◌≡◌, IfOk};
 ghost use Rattle.scan_types.specs.Ranges.{IsLimitRange};
 ghost use Rattle.feed_definitions.specs.Fields.{next, next_at};
-ghost use Rattle.feed_definitions.specs.Forms.{one_of, feed_words, version_words, rule_words, action_words, market_words, result_words, handicap_words, total_words};
+ghost use Rattle.bet_definitions.specs.Bets.{rule_words, market_words, side_words};
+ghost use Rattle.feed_definitions.specs.Forms.{one_of, feed_words, version_words, action_words};
 ghost use Rattle.feed_definitions.specs.Forms.{name_value, odds_value, limit_value, handicap_value, total_value};
 
 use crate::fields::Fields;
-use crate::values::{handicap_value, limit_value, name_value, odds_value, total_value};
-use crate::words::{
-    action_word, feed_word, handicap_word, market_word, result_word, rule_word, total_word,
-    version_word,
+use crate::values::{
+    handicap_value, limit_value, market_value, name_value, odds_value, rule_value, side_value,
+    total_value,
 };
-use feed_definitions::{Action, Fault, Market};
+use crate::words::{action_word, feed_word, version_word};
+use bet_words::{BetLine, Market};
+use feed_definitions::{Action, Fault};
 use scan_types::{HandicapLine, Name, Odds, Selection, TotalLine, VoidRule};
 
 /// The word that a header begins with.
@@ -46,7 +48,7 @@ pub fn next_rule<'a>(fields: Fields<'a>) -> Result<(VoidRule, Fields<'a>), Fault
     ensures { result ≡ next (one_of rule_words) fields.entry }
 {
     let (field, others) = fields.next()?;
-    let value = field.tested(rule_word(field.bytes()))?;
+    let value = field.tested(rule_value(field.bytes()))?;
     Ok((value, others))
 }
 
@@ -64,16 +66,7 @@ pub fn next_market<'a>(fields: Fields<'a>) -> Result<(Market, Fields<'a>), Fault
     ensures { result ≡ next (one_of market_words) fields.entry }
 {
     let (field, others) = fields.next()?;
-    let value = field.tested(market_word(field.bytes()))?;
-    Ok((value, others))
-}
-
-/// A side of the result.
-pub fn next_result_side<'a>(fields: Fields<'a>) -> Result<(Selection, Fields<'a>), Fault>
-    ensures { result ≡ next (one_of result_words) fields.entry }
-{
-    let (field, others) = fields.next()?;
-    let value = field.tested(result_word(field.bytes()))?;
+    let value = field.tested(market_value(field.bytes()))?;
     Ok((value, others))
 }
 
@@ -86,18 +79,6 @@ pub fn next_handicap<'a>(fields: Fields<'a>) -> Result<(HandicapLine, Fields<'a>
     Ok((value, others))
 }
 
-/// A side at this handicap line.
-pub fn next_handicap_side<'a>(
-    fields: Fields<'a>,
-    line: HandicapLine,
-) -> Result<(Selection, Fields<'a>), Fault>
-    ensures { result ≡ next (one_of (handicap_words line)) fields.entry }
-{
-    let (field, others) = fields.next()?;
-    let value = field.tested(handicap_word(field.bytes(), line))?;
-    Ok((value, others))
-}
-
 /// A total line.
 pub fn next_total<'a>(fields: Fields<'a>) -> Result<(TotalLine, Fields<'a>), Fault>
     ensures { result ≡ next total_value fields.entry }
@@ -107,15 +88,16 @@ pub fn next_total<'a>(fields: Fields<'a>) -> Result<(TotalLine, Fields<'a>), Fau
     Ok((value, others))
 }
 
-/// A side of this total line.
-pub fn next_total_side<'a>(
+/// A side of this market at this line, as the bet on it.
+pub fn next_side<'a>(
     fields: Fields<'a>,
-    line: TotalLine,
+    market: Market,
+    line: BetLine,
 ) -> Result<(Selection, Fields<'a>), Fault>
-    ensures { result ≡ next (one_of (total_words line)) fields.entry }
+    ensures { result ≡ next (one_of (side_words market line)) fields.entry }
 {
     let (field, others) = fields.next()?;
-    let value = field.tested(total_word(field.bytes(), line))?;
+    let value = field.tested(side_value(field.bytes(), market, line))?;
     Ok((value, others))
 }
 

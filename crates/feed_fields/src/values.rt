@@ -1,11 +1,34 @@
-//! Names, odds, stake limits and lines as fields.
+//! The words of a bet, names, odds, stake limits and lines as fields.
 ghost use Rattle.std.specs.Prelude.{◌≡◌, IfOk};
 ghost use Rattle.scan_types.specs.Ranges.{IsLimitRange};
-ghost use Rattle.feed_definitions.specs.Forms.{name_value, odds_value, limit_value, handicap_value, total_value};
+ghost use Rattle.bet_definitions.specs.Bets.{rule_words, market_words, side_words};
+ghost use Rattle.feed_definitions.specs.Forms.{one_of, name_value, odds_value, limit_value, handicap_value, total_value};
 
+use bet_words::{BetLine, Market, read_market, read_rule, read_side};
 use feed_definitions::Cause;
 use odds_fixed::{LimitFault, OddsFault, read_limit, read_odds, read_quarters};
-use scan_types::{HandicapLine, Name, Odds, TotalLine};
+use scan_types::{HandicapLine, Name, Odds, Selection, TotalLine, VoidRule};
+
+/// How a book settles bets if a match is abandoned.
+pub fn rule_value(text: &[u8]) -> Result<VoidRule, Cause>
+    ensures { result ≡ one_of rule_words text.now }
+{
+    read_rule(text).ok_or(Cause::UnknownWord)
+}
+
+/// On what a line bets.
+pub fn market_value(text: &[u8]) -> Result<Market, Cause>
+    ensures { result ≡ one_of market_words text.now }
+{
+    read_market(text).ok_or(Cause::UnknownWord)
+}
+
+/// A side of this market at this line, as the bet on it.
+pub fn side_value(text: &[u8], market: Market, line: BetLine) -> Result<Selection, Cause>
+    ensures { result ≡ one_of (side_words market line) text.now }
+{
+    read_side(text, market, line).ok_or(Cause::UnknownWord)
+}
 
 /// The name of a book or of a match.
 pub fn name_value(text: &[u8]) -> Result<Name, Cause>

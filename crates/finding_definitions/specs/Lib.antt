@@ -3,6 +3,7 @@ pub mod Measure
 pub mod Verdicts
 pub mod Fractions
 pub mod Findings
+pub mod Best
 pub mod Truths
 pub mod Text
 pub mod Readable

@@ -4,7 +4,8 @@
 //! - `finding`: the six kinds of finding.
 //!
 //! The definitions stand in `specs`: `Arbitrage` (stakes that win at every outcome), `Measure` (price measures), `Verdicts` (what
-//! makes each certificate right), `Findings` (what makes a finding right) and `Text` (the one text of a finding).
+//! makes each certificate right), `Findings` (what makes a finding right), `Best` (what makes stakes the best that can be had) and `Text`
+//! (the one text of a finding).
 #![tactic(auto)]
 
 mod finding;

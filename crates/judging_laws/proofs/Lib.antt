@@ -15,3 +15,4 @@ pub mod Limits
 pub mod Parts
 pub mod CoarseOdds
 pub mod RightFindings
+pub mod SpentRuns

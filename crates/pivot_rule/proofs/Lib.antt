@@ -2,3 +2,4 @@ pub mod Least
 pub mod Ratios
 pub mod Steps
 pub mod EndsOnce
+pub mod FewPivots

@@ -1,8 +1,9 @@
 -- How a run ends.
-use Rattle.std.specs.Prelude.{◌≡◌, ℕ}
+use Rattle.std.specs.Prelude.{◌≡◌, ℕ, ◌<◌, length}
 use Rattle.pivot_definitions.specs.Programs.{LinearProgram, IsProgram, IsCapped}
-use Rattle.pivot_definitions.specs.Tableaus.{SimplexTableau, built, kept}
+use Rattle.pivot_definitions.specs.Tableaus.{SimplexTableau, column_count, built, kept}
 use Rattle.pivot_definitions.specs.Runs.{IsBest, EndsBest, EndsWide, EndsOutOfPivots}
+use Rattle.bland_laws.specs.Ways.{ways}
 use Rattle.pivot_rule.specs.declared.bland.RunEnd.{RunEnd}
 use Rattle.pivot_rule.specs.declared.bland.RunEnd.TheVariants.{Best, Wide, OutOfPivots}
 
@@ -25,6 +26,12 @@ abbrev pub BestIsBest : RunEnd → SimplexTableau → Type 0
 BestIsBest (Best pivots) left = IsBest left
 BestIsBest (Wide pivots row column) left = Unit {0}
 BestIsBest (OutOfPivots pivots) left = Unit {0}
+
+-- where the run is out of pivots, it made fewer than there are bases: ways to choose as many columns as the tableau has rows
+abbrev pub MadeFewPivots : SimplexTableau → RunEnd → Type 0
+MadeFewPivots start (Best pivots) = Unit {0}
+MadeFewPivots start (Wide pivots row column) = Unit {0}
+MadeFewPivots start (OutOfPivots pivots) = pivots < ways (column_count start) (length start.basis)
 
 -- a run from a tableau with a budget has one end
 abbrev pub EndIsOne : Type 0

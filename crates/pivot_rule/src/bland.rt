@@ -1,5 +1,5 @@
 ghost use Rattle.pivot_definitions.specs.Tableaus.{HasSameShape};
-ghost use Rattle.pivot_rule.specs.Ends.{IsCappedStart, RunEndsAs, BestIsBest, EndIsOne};
+ghost use Rattle.pivot_rule.specs.Ends.{IsCappedStart, RunEndsAs, BestIsBest, MadeFewPivots, EndIsOne};
 
 use crate::choice::choose;
 use fraction_tableau::Tableau;
@@ -18,7 +18,8 @@ pub enum RunEnd {
         /// The column of the first place, from 0 on, the right side being the last.
         column: u32,
     },
-    /// As many pivots were made as the budget has, and a choice remains.
+    /// As many pivots were made as the budget has, and a choice remains. They are fewer than there are ways to choose as many
+    /// columns as there are rows, slack columns included.
     OutOfPivots(u32),
 }
 
@@ -29,6 +30,8 @@ pub fn run(tableau: &mut Tableau, budget: u32) -> RunEnd
     ensures end { RunEndsAs tableau.old budget result tableau.new }
     ensures best { BestIsBest result tableau.new }
     ensures shape { HasSameShape tableau.old tableau.new }
+    // Bland's rule meets no basis twice, so a budget of as many pivots as there are bases is never used up.
+    ensures few_pivots { MadeFewPivots tableau.old result }
 {
     for pivots in 0..budget {
         let Some(choice) = choose(tableau) else {

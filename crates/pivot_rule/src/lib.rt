@@ -6,7 +6,8 @@
 //!   choice costs a scan of the objective row and one of a column, and its pivot a few scans of each other row that is not 0
 //!   in that column. Takes no memory.
 //!
-//! A program's last row caps column 0, so no run is unbounded, and no answer says that it is.
+//! A program's last row caps column 0, so no run is unbounded, and no answer says that it is. No run meets a basis twice
+//! (`bland_laws`), so a budget of as many pivots as there are bases is never used up. No call computes that number.
 #![tactic(auto)]
 
 mod bland;

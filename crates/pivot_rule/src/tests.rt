@@ -121,6 +121,8 @@ fn spends_its_budget(rt: HostRuntime) -> Result<(), Fail> {
         (1, RunEnd::OutOfPivots(1)),
         (2, RunEnd::OutOfPivots(2)),
         (3, RunEnd::Best(3)),
+        // As many pivots as there are ways to choose five of nine columns.
+        (126, RunEnd::Best(3)),
     ] {
         assert_eq!(rt; run(&mut three_way(rt.alloc())?, budget), end);
     }
@@ -158,7 +160,7 @@ fn weighs_the_results_of_a_whole_match(rt: HostRuntime) -> Result<(), Fail> {
 
 #[test]
 fn ends_at_the_level_of_the_program(rt: HostRuntime) -> Result<(), Fail> {
-    // Column 0 is at most 0, by a row without room.
+    // Column 0 is at most 0, by a row without room. There are three ways to choose two of three columns.
     let mut no_room = started(rt.alloc(), 1, 2, &[1, 1], &[0, 1])?;
     assert_eq!(rt; run(&mut no_room, 3), RunEnd::Best(1));
     assert_eq!(rt; no_room.value(0), (0, 1));

@@ -3,3 +3,4 @@ pub mod Averages
 pub mod Roundings
 pub mod Verdict
 pub mod Limits
+pub mod MostGain

@@ -15,7 +15,7 @@ use Rattle.price_duality.proofs.Averages.{Entry, weighted_sum-times, weighted_su
 use Rattle.price_duality.proofs.Verdict.{arbitrage_wins}
 
 -- zero or the number, whichever is larger
-max_zero : (z : ℤ) → (pos 0 ≤ℤ int_max (pos 0) z) × (z ≤ℤ int_max (pos 0) z)
+pub max_zero : (z : ℤ) → (pos 0 ≤ℤ int_max (pos 0) z) × (z ≤ℤ int_max (pos 0) z)
 max_zero z = let is = int_max_is (pos 0) z in (omega (arith, ints, is), omega (arith, ints, is))
 
 add_zero : (a b : ℤ) → pos 0 ≤ℤ b → a ≤ℤ (a +ℤ b)
@@ -31,7 +31,7 @@ contradiction d a b c r w s some e1 h1 e2 h2 h3 e3 = omega (arith, ints)
 sum-times : (m n : ℕ) (z : ℤ) → pos (m + n) *ℤ z ≡ pos m *ℤ z +ℤ pos n *ℤ z
 sum-times m n z = omega (arith, ints)
 
-times-times : (p q : ℕ) (z : ℤ) → pos (p * q) *ℤ z ≡ pos p *ℤ (pos q *ℤ z)
+pub times-times : (p q : ℕ) (z : ℤ) → pos (p * q) *ℤ z ≡ pos p *ℤ (pos q *ℤ z)
 times-times zero q z = let none : 0 * q ≡ 0 = omega arith in ap (λ n. pos n *ℤ z) none ∙ zero-*ℤ z ∙ sym (zero-*ℤ (pos q *ℤ z))
 times-times (suc p) q z =
     let more : suc p * q ≡ p * q + q = omega arith in
@@ -59,7 +59,7 @@ term_within p limit d e h =
     (subst (λ z. (pos p *ℤ top) ≤ℤ z) (times-times d limit top) larger)
 
 -- stakes within the limits win on average at most what they can reach
-within_reach : (offers : List Offer) (parts : List ℕ) (d : ℕ) (m : List Entry) → AllZip (λ (o : Offer) p. p ≤ o.limit * d) offers parts → sum_over (λ o p. pos p *ℤ mean m o) offers parts ≤ℤ (pos d *ℤ reach offers m)
+pub within_reach : (offers : List Offer) (parts : List ℕ) (d : ℕ) (m : List Entry) → AllZip (λ (o : Offer) p. p ≤ o.limit * d) offers parts → sum_over (λ o p. pos p *ℤ mean m o) offers parts ≤ℤ (pos d *ℤ reach offers m)
 within_reach [] parts d m h = let none : pos d *ℤ pos 0 ≡ pos 0 = *ℤ-zero (pos d) in rw none (omega (arith, ints))
 within_reach (o ∷ offers) [] d m h = absurd h
 within_reach (o ∷ offers) (p ∷ parts) d m h =

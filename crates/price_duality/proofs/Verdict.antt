@@ -13,7 +13,7 @@ use Rattle.price_duality.proofs.Averages.{Entry, weighted_sum-times, weighted_su
 use Rattle.price_duality.proofs.Roundings.{total_net_below}
 
 -- a price measure has weight on a final score
-final_weight_some : (m : List Entry) → IsPriceMeasure m → pos 1 ≤ℤ final_weight m
+pub final_weight_some : (m : List Entry) → IsPriceMeasure m → pos 1 ≤ℤ final_weight m
 final_weight_some m price =
     let (k, x, l, e, f) = price.final in
     let W : Entry → Type 0 = λ y. (1 ≤ y.1) × (y.1 ≤ MOST_PART) in

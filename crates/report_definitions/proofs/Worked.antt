@@ -6,7 +6,7 @@ use Rattle.scan_types.specs.Selections.{selection_number}
 use Rattle.feed_definitions.specs.declared.accepted.Accepted.{Accepted}
 use Rattle.feed_definitions.specs.declared.accepted.Change.TheVariants.{Quote, Withdraw}
 use Rattle.feed_definitions.specs.declared.cause.Cause.TheVariants.{BadOdds}
-use Rattle.feed_definitions.specs.Forms.{header_of, header_form, line_form, request_form, selection_form, change_form}
+use Rattle.feed_definitions.specs.Forms.{header_of, header_form, line_form, request_form, bet_line_form, selection_form, change_form}
 use Rattle.feed_definitions.specs.Feed.{accepted, steps, feed_steps, line_steps}
 use Rattle.board_definitions.specs.declared.event.FeedStop.TheVariants.{End}
 use Rattle.report_definitions.specs.declared.feed_part.FeedPart.{FeedPart}
@@ -34,26 +34,26 @@ short line = elim line.change [
 
 -- the one quote of a selection
 the_quote : option_map short (last_line feeds (codes "m1") 0 2) ≡ Some (3 ∷ 2 ∷ 4500 ∷ 100000 ∷ [])
-unfolding steps feed_steps header_of header_form line_steps line_form request_form selection_form change_form Rattle.number_definitions.specs.Readings.thousandths_of_parts Rattle.number_definitions.specs.Values.odds_with
+unfolding steps feed_steps header_of header_form line_steps line_form request_form bet_line_form selection_form change_form Rattle.number_definitions.specs.Readings.thousandths_of_parts Rattle.number_definitions.specs.Values.odds_with
 the_quote = refl
 
 -- the later of two quotes
 the_later_quote : option_map short (last_line feeds (codes "m1") 1 1) ≡ Some (3 ∷ 1 ∷ 4000 ∷ 100000 ∷ [])
-unfolding steps feed_steps header_of header_form line_steps line_form request_form selection_form change_form Rattle.number_definitions.specs.Readings.thousandths_of_parts Rattle.number_definitions.specs.Values.odds_with
+unfolding steps feed_steps header_of header_form line_steps line_form request_form bet_line_form selection_form change_form Rattle.number_definitions.specs.Readings.thousandths_of_parts Rattle.number_definitions.specs.Values.odds_with
 the_later_quote = refl
 
 -- a selection that this feed does not quote
 not_quoted : option_map short (last_line feeds (codes "m1") 1 2) ≡ None
-unfolding steps feed_steps header_of header_form line_steps line_form request_form selection_form change_form Rattle.number_definitions.specs.Readings.thousandths_of_parts Rattle.number_definitions.specs.Values.odds_with
+unfolding steps feed_steps header_of header_form line_steps line_form request_form bet_line_form selection_form change_form Rattle.number_definitions.specs.Readings.thousandths_of_parts Rattle.number_definitions.specs.Values.odds_with
 not_quoted = refl
 
 -- what was withdrawn does not stand, and the match stays one of the report
 withdrawn : standing_offer feeds (codes "m2") 0 0 ≡ None
-unfolding steps feed_steps header_of header_form line_steps line_form request_form selection_form change_form Rattle.number_definitions.specs.Readings.thousandths_of_parts Rattle.number_definitions.specs.Values.odds_with
+unfolding steps feed_steps header_of header_form line_steps line_form request_form bet_line_form selection_form change_form Rattle.number_definitions.specs.Readings.thousandths_of_parts Rattle.number_definitions.specs.Values.odds_with
 withdrawn = refl
 
 still_quoted : IsQuoted feeds (codes "m2")
-unfolding steps feed_steps header_of header_form line_steps line_form request_form selection_form change_form Rattle.number_definitions.specs.Readings.thousandths_of_parts Rattle.number_definitions.specs.Values.odds_with
+unfolding steps feed_steps header_of header_form line_steps line_form request_form bet_line_form selection_form change_form Rattle.number_definitions.specs.Readings.thousandths_of_parts Rattle.number_definitions.specs.Values.odds_with
 still_quoted = record { feed = 0; quoted = refl }
 
 -- texts one after another

@@ -6,6 +6,7 @@ use Rattle.std.specs.Ordering.{nat_cmp}
 use Rattle.std.specs.declared.cmp.Ordering.TheVariants as ordering
 use Rattle.scan_types.specs.declared.offer.Offer.{Offer}
 use Rattle.number_definitions.specs.Spellings.{odds_text}
+use Rattle.bet_definitions.specs.Bets.{selection_fields, rule_text}
 use Rattle.finding_definitions.specs.Text.{finding_text}
 use Rattle.finding_definitions.specs.declared.finding.Finding.{Finding}
 use Rattle.feed_definitions.specs.declared.cause.Refusal.{Refusal}
@@ -13,7 +14,7 @@ use Rattle.judging_definitions.specs.ExactFinding.{IsFindingOf}
 use Rattle.report_definitions.specs.declared.feed_part.FeedPart.{FeedPart}
 use Rattle.report_definitions.specs.declared.match_part.MatchPart.{MatchPart}
 use Rattle.report_definitions.specs.Seen.{SeenFeed, IsQuoted, sheet_of}
-use Rattle.report_definitions.specs.Words.{line_of, selection_fields, rule_text, stop_text, cause_text}
+use Rattle.report_definitions.specs.Words.{line_of, stop_text, cause_text}
 
 -- the bytes
 

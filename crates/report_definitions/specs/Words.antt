@@ -1,11 +1,6 @@
--- How a report spells what it names. Fields are separated by one space, and each line ends with a line feed.
+-- How a report spells what it names beside bets (`bet_definitions`). Fields are separated by one space, and each line ends with a line feed.
 use Rattle.std.specs.Prelude.{ℕ, List, [], ◌∷◌, ◌++◌, codes}
 use Rattle.std.specs.List.{join_with_byte}
-use Rattle.scan_types.specs.declared.selection.Selection.{Selection}
-use Rattle.scan_types.specs.declared.selection.Selection.TheVariants.{Home, Draw, Away, HandicapHome, HandicapAway, Over, Under}
-use Rattle.scan_types.specs.declared.rule.VoidRule.{VoidRule}
-use Rattle.scan_types.specs.declared.rule.VoidRule.TheVariants.{Void, Score, Decided}
-use Rattle.number_definitions.specs.Spellings.{quarters_text, handicap_text}
 use Rattle.feed_definitions.specs.declared.cause.Cause.{Cause}
 use Rattle.feed_definitions.specs.declared.cause.Cause.TheVariants as cause
 use Rattle.board_definitions.specs.declared.event.FeedStop.{FeedStop}
@@ -14,22 +9,6 @@ use Rattle.board_definitions.specs.declared.event.FeedStop.TheVariants as stop
 -- a line of these fields
 abbrev pub line_of : List (List ℕ) → List ℕ
 line_of fields = join_with_byte 32 fields ++ 10 ∷ []
-
--- a selection: its market, its line if the market has lines, and its side
-abbrev pub selection_fields : Selection → List (List ℕ)
-selection_fields Home = codes "1x2" ∷ codes "home" ∷ []
-selection_fields Draw = codes "1x2" ∷ codes "draw" ∷ []
-selection_fields Away = codes "1x2" ∷ codes "away" ∷ []
-selection_fields (HandicapHome line) = codes "ah" ∷ handicap_text line.quarters ∷ codes "home" ∷ []
-selection_fields (HandicapAway line) = codes "ah" ∷ handicap_text line.quarters ∷ codes "away" ∷ []
-selection_fields (Over line) = codes "total" ∷ quarters_text line.quarters ∷ codes "over" ∷ []
-selection_fields (Under line) = codes "total" ∷ quarters_text line.quarters ∷ codes "under" ∷ []
-
--- how a book settles abandoned matches
-abbrev pub rule_text : VoidRule → List ℕ
-rule_text Void = codes "void"
-rule_text Score = codes "score"
-rule_text Decided = codes "decided"
 
 -- how a feed ended; the last two occur in no report, and a feed without a header has no word anywhere
 abbrev pub stop_text : FeedStop → List ℕ

@@ -3,6 +3,7 @@ ghost use Rattle.scan_types.specs.declared.limits.TheConstants.{MOST_PIVOTS};
 ghost use Rattle.finding_definitions.specs.Findings.{IsVerdict, IsRight, IsRightVerdict};
 ghost use Rattle.judging_definitions.specs.CoarseFinding.{IsCoarseVerdict};
 ghost use Rattle.judging_definitions.specs.ExactFinding.{IsWideAtFirst, IsFindingOf};
+ghost use Rattle.judging_laws.specs.SpentRuns.{MadeFewPivots};
 ghost use Rattle.verdict_maker.specs.Tries.{FoundBy};
 
 use crate::coarse::found_with_coarse_odds;
@@ -96,6 +97,8 @@ pub fn judge(alloc: Global, bench: &mut Bench, sheet: &Sheet) -> Result<Finding,
     // So each verdict passes the separate checker, which says yes just of these.
     ensures passes_check { IfOk result (λ finding. IsVerdict finding → IsRightVerdict sheet.now finding) }
     ensures budget_stays { bench.new ≡ bench.old }
+    // So a budget of as many pivots as each program has bases is never used up.
+    ensures few_pivots { IfOk result (MadeFewPivots sheet.now) }
 {
     finding_of(alloc, &mut bench.tableau, bench.law.budget, sheet)
 }

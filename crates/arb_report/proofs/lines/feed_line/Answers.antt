@@ -1,6 +1,7 @@
 use Rattle.std.proofs.Common.{[], ◌∷◌, length, ◌∙◌}
 use Rattle.std.specs.Prelude.{codes, decimal}
-use Rattle.report_definitions.specs.Words.{rule_text, stop_text}
+use Rattle.bet_definitions.specs.Bets.{rule_text}
+use Rattle.report_definitions.specs.Words.{stop_text}
 use Rattle.arb_report.proofs.Shapes.{line_shape}
 use Rattle.arb_report.proofs.lines.feed_line.Goals as goal
 

@@ -1,7 +1,7 @@
 use Rattle.std.proofs.Common.{ap}
 use Rattle.std.specs.List.{flat_map}
 use Rattle.report_definitions.specs.Report.{refusal_line}
-use Rattle.certificates.proofs.Writes.{and_then, cut, same_text}
+use Rattle.text_out.proofs.Writes.{and_then, cut, same_text}
 use Rattle.arb_report.proofs.writing.put_feed.Goals as goal
 
 pub returns-in_err-put_feed_line : goal.returns-in_err-put_feed_line

@@ -3,7 +3,7 @@ use Rattle.std.specs.List.{flat_map, enumerate_from}
 use Rattle.std.proofs.lemmas.List.FromFn.{length-enumerate_from, get_or-enumerate_from}
 use Rattle.report_definitions.specs.declared.feed_part.FeedPart.{FeedPart}
 use Rattle.report_definitions.specs.Report.{feed_lines}
-use Rattle.certificates.proofs.Writes.{and_then, cut, same_text, nothing, flat_map_all}
+use Rattle.text_out.proofs.Writes.{and_then, cut, same_text, nothing, flat_map_all}
 use Rattle.arb_report.proofs.Shapes.{one_more, all_three}
 use Rattle.arb_report.proofs.writing.put_feeds.Goals as goal
 

@@ -3,7 +3,7 @@ use Rattle.std.specs.Prelude.{Ok}
 use Rattle.std.specs.List.{flat_map, enumerate_from}
 use Rattle.desk_io.specs.declared.faults.WriteFailed.{WriteFailed}
 use Rattle.report_definitions.specs.Report.{feed_lines}
-use Rattle.certificates.specs.Written.{Gathered}
+use Rattle.text_out.specs.Written.{Gathered}
 use Rattle.arb_report.proofs.writing.put_feeds.Given as goal
 
 -- the feeds so far were gathered

@@ -1,6 +1,6 @@
 use Rattle.std.proofs.Common.{[], ◌∷◌, ◌++◌}
 use Rattle.finding_definitions.specs.Text.{finding_text}
-use Rattle.certificates.proofs.Writes.{and_then, cut}
+use Rattle.text_out.proofs.Writes.{and_then, cut}
 use Rattle.arb_report.proofs.writing.put_found.Goals as goal
 
 pub returns-in_err-gather : goal.returns-in_err-gather

@@ -1,7 +1,7 @@
 use Rattle.std.proofs.Common.{◌++◌, ap, append_assoc}
 use Rattle.std.specs.List.{flat_map}
 use Rattle.report_definitions.specs.Report.{match_line, offer_line, finding_line}
-use Rattle.certificates.proofs.Writes.{and_then, cut, same_text}
+use Rattle.text_out.proofs.Writes.{and_then, cut, same_text}
 use Rattle.arb_report.proofs.writing.put_match.Goals as goal
 
 pub returns-in_err-put_match_line : goal.returns-in_err-put_match_line

@@ -2,7 +2,7 @@ use Rattle.std.proofs.Common.{ℕ, List, ◌+◌, drop}
 use Rattle.std.specs.List.{flat_map}
 use Rattle.report_definitions.specs.declared.match_part.MatchPart.{MatchPart}
 use Rattle.report_definitions.specs.Report.{match_lines}
-use Rattle.certificates.proofs.Writes.{and_then, cut, same_text, nothing, flat_map_all}
+use Rattle.text_out.proofs.Writes.{and_then, cut, same_text, nothing, flat_map_all}
 use Rattle.arb_report.proofs.Shapes.{one_more, all_three}
 use Rattle.arb_report.proofs.writing.put_matches.Goals as goal
 

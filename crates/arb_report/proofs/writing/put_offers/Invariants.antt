@@ -3,7 +3,7 @@ use Rattle.std.specs.Prelude.{Ok}
 use Rattle.std.specs.List.{flat_map}
 use Rattle.desk_io.specs.declared.faults.WriteFailed.{WriteFailed}
 use Rattle.report_definitions.specs.Report.{offer_line}
-use Rattle.certificates.specs.Written.{Gathered}
+use Rattle.text_out.specs.Written.{Gathered}
 use Rattle.arb_report.proofs.writing.put_offers.Given as goal
 
 -- the lines so far were gathered

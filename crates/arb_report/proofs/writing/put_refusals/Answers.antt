@@ -2,7 +2,7 @@ use Rattle.std.proofs.Common.{ℕ, List, ◌+◌, drop}
 use Rattle.std.specs.List.{flat_map}
 use Rattle.feed_definitions.specs.declared.cause.Refusal.{Refusal}
 use Rattle.report_definitions.specs.Report.{refusal_line}
-use Rattle.certificates.proofs.Writes.{and_then, cut, same_text, nothing, flat_map_take, flat_map_rest, flat_map_all}
+use Rattle.text_out.proofs.Writes.{and_then, cut, same_text, nothing, flat_map_take, flat_map_rest, flat_map_all}
 use Rattle.arb_report.proofs.writing.put_refusals.Goals as goal
 
 pub loop-refusal-init : goal.loop-refusal-init

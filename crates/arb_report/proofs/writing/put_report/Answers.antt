@@ -1,7 +1,7 @@
 use Rattle.std.proofs.Common.{ℕ, List, ◌++◌, ap}
 use Rattle.std.specs.List.{flat_map, enumerate_from}
 use Rattle.report_definitions.specs.Report.{report_text, pivots_line, feed_lines, match_lines, end_line}
-use Rattle.certificates.proofs.Writes.{and_then, cut, same_text}
+use Rattle.text_out.proofs.Writes.{and_then, cut, same_text}
 use Rattle.arb_report.proofs.Shapes.{title_is}
 use Rattle.arb_report.proofs.writing.put_report.Goals as goal
 

@@ -1,4 +1,4 @@
-use Rattle.certificates.proofs.Writes.{from_nothing, and_the_rest, gathered_short}
+use Rattle.text_out.proofs.Writes.{from_nothing, and_the_rest, gathered_short}
 use Rattle.arb_report.proofs.writing.put_whole.Goals as goal
 
 pub returns-in_err-put_report : goal.returns-in_err-put_report

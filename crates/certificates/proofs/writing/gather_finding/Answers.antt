@@ -1,8 +1,8 @@
 use Rattle.std.proofs.Common.{ℕ, List, ◌++◌, sym}
 use Rattle.std.specs.Prelude.{codes}
 use Rattle.finding_definitions.specs.Text.{stake_fields, measure_fields, fraction_fields, run_fields, place_fields}
-use Rattle.certificates.specs.Written.{spaced}
-use Rattle.certificates.proofs.Writes.{and_then, cut, same_text, join_spaced}
+use Rattle.text_out.specs.Written.{spaced}
+use Rattle.text_out.proofs.Writes.{and_then, cut, same_text, join_spaced}
 use Rattle.certificates.proofs.writing.gather_finding.Goals as goal
 
 pub returns-in_err-gather-in-Arb : goal.returns-in_err-gather-in-Arb

@@ -1,7 +1,7 @@
 use Rattle.std.proofs.Common.{sym}
 use Rattle.finding_definitions.specs.Text.{measure_fields, fraction_fields}
-use Rattle.certificates.specs.Written.{spaced}
-use Rattle.certificates.proofs.Writes.{and_then, cut, same_text, spaced-append}
+use Rattle.text_out.specs.Written.{spaced}
+use Rattle.text_out.proofs.Writes.{and_then, cut, same_text, spaced-append}
 use Rattle.certificates.proofs.writing.put_bound.Goals as goal
 
 pub returns-in_err-put_parts : goal.returns-in_err-put_parts

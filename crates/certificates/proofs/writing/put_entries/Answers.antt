@@ -2,8 +2,8 @@ use Rattle.std.proofs.Common.{ℕ, List, ◌+◌, drop}
 use Rattle.std.specs.List.{flat_map}
 use Rattle.scan_types.specs.declared.outcome.Outcome.{Outcome}
 use Rattle.finding_definitions.specs.Text.{entry_fields}
-use Rattle.certificates.specs.Written.{spaced}
-use Rattle.certificates.proofs.Writes.{and_then, cut, same_text, nothing, flat_map_take, flat_map_rest, flat_map_all}
+use Rattle.text_out.specs.Written.{spaced}
+use Rattle.text_out.proofs.Writes.{and_then, cut, same_text, nothing, flat_map_take, flat_map_rest, flat_map_all}
 use Rattle.certificates.proofs.writing.put_entries.Goals as goal
 
 pub loop-entry-init : goal.loop-entry-init

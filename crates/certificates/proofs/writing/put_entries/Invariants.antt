@@ -3,7 +3,7 @@ use Rattle.std.specs.Prelude.{Ok}
 use Rattle.std.specs.List.{flat_map}
 use Rattle.desk_io.specs.declared.faults.WriteFailed.{WriteFailed}
 use Rattle.finding_definitions.specs.Text.{entry_fields}
-use Rattle.certificates.specs.Written.{Gathered, spaced}
+use Rattle.text_out.specs.Written.{Gathered, spaced}
 use Rattle.certificates.proofs.writing.put_entries.Given as goal
 
 -- the entries so far were gathered

@@ -1,8 +1,8 @@
 use Rattle.std.proofs.Common.{ℕ, ◌≡◌, List, [], ◌∷◌, ◌++◌, sym, ap, ◌∙◌, decimal}
 use Rattle.scan_types.specs.declared.outcome.Outcome.{Outcome}
 use Rattle.finding_definitions.specs.Text.{outcome_fields}
-use Rattle.certificates.specs.Written.{spaced}
-use Rattle.certificates.proofs.Writes.{and_then, cut, same_text, spaced-append, number_shape}
+use Rattle.text_out.specs.Written.{spaced}
+use Rattle.text_out.proofs.Writes.{and_then, cut, same_text, spaced-append, number_shape}
 use Rattle.certificates.proofs.writing.put_entry.Goals as goal
 
 shape : (outcome : Outcome) (weight : ℕ) → spaced (outcome_fields outcome) ++ (32 ∷ decimal weight) ≡ spaced (outcome_fields outcome ++ decimal weight ∷ [])

@@ -2,8 +2,8 @@ use Rattle.std.proofs.Common.{ℕ, ◌≡◌, List, ◌∷◌, ◌++◌, length,
 use Rattle.std.specs.List.{flat_map}
 use Rattle.scan_types.specs.declared.outcome.Outcome.{Outcome}
 use Rattle.finding_definitions.specs.Text.{entry_fields, measure_fields}
-use Rattle.certificates.specs.Written.{spaced}
-use Rattle.certificates.proofs.Writes.{and_then, cut, same_text, counted_shape}
+use Rattle.text_out.specs.Written.{spaced}
+use Rattle.text_out.proofs.Writes.{and_then, cut, same_text, counted_shape}
 use Rattle.certificates.proofs.writing.put_measure.Goals as goal
 
 shape : (items measure : List (Outcome × ℕ)) → items ≡ measure → (32 ∷ decimal (length items)) ++ flat_map (λ (entry : Outcome × ℕ). spaced (entry_fields entry)) items ≡ spaced (measure_fields measure)

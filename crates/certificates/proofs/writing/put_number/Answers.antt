@@ -1,5 +1,5 @@
 use Rattle.std.proofs.Common.{ℕ, List, ◌∷◌, ap, ◌∙◌}
-use Rattle.certificates.proofs.Writes.{and_then, same_text}
+use Rattle.text_out.proofs.Writes.{and_then, same_text}
 use Rattle.certificates.proofs.writing.put_number.Goals as goal
 
 pub returns : goal.returns

@@ -1,6 +1,6 @@
 use Rattle.std.proofs.Common.{◌∷◌, ◌++◌, decimal}
 use Rattle.std.specs.Prelude.{codes}
-use Rattle.certificates.proofs.Writes.{and_then, cut, same_text, pair_shape}
+use Rattle.text_out.proofs.Writes.{and_then, cut, same_text, pair_shape}
 use Rattle.certificates.proofs.writing.put_outcome.Goals as goal
 
 pub returns-in_err-gather-in-Full : goal.returns-in_err-gather-in-Full

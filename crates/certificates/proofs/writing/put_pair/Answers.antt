@@ -1,5 +1,5 @@
 use Rattle.std.proofs.Common.{◌∷◌, decimal}
-use Rattle.certificates.proofs.Writes.{and_then, cut}
+use Rattle.text_out.proofs.Writes.{and_then, cut}
 use Rattle.certificates.proofs.writing.put_pair.Goals as goal
 
 pub returns-in_err-put_number : goal.returns-in_err-put_number

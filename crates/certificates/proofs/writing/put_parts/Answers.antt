@@ -1,8 +1,8 @@
 use Rattle.std.proofs.Common.{ℕ, ◌≡◌, List, [], ◌∷◌, ◌++◌, length, ap, ◌∙◌, append_assoc, decimal}
 use Rattle.std.specs.List.{flat_map}
 use Rattle.finding_definitions.specs.Text.{stake_fields}
-use Rattle.certificates.specs.Written.{spaced}
-use Rattle.certificates.proofs.Writes.{and_then, cut, same_text, number_shape, counted_shape}
+use Rattle.text_out.specs.Written.{spaced}
+use Rattle.text_out.proofs.Writes.{and_then, cut, same_text, number_shape, counted_shape}
 use Rattle.certificates.proofs.writing.put_parts.Goals as goal
 
 shape : (d divisor : ℕ) (items parts : List ℕ) → d ≡ divisor → items ≡ parts → ((32 ∷ decimal d) ++ (32 ∷ decimal (length items))) ++ flat_map (λ (item : ℕ). 32 ∷ decimal item) items ≡ spaced (decimal divisor ∷ stake_fields parts)

@@ -1,5 +1,5 @@
 use Rattle.finding_definitions.specs.Text.{stage_number}
-use Rattle.certificates.proofs.Writes.{same_text, numbers_shape}
+use Rattle.text_out.proofs.Writes.{same_text, numbers_shape}
 use Rattle.certificates.proofs.writing.put_run.Goals as goal
 
 pub returns : goal.returns

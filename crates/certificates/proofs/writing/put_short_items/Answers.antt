@@ -1,6 +1,6 @@
 use Rattle.std.proofs.Common.{ℕ, List, ◌∷◌, ◌+◌, drop, decimal}
 use Rattle.std.specs.List.{flat_map}
-use Rattle.certificates.proofs.Writes.{and_then, cut, same_text, nothing, flat_map_take, flat_map_rest, flat_map_all}
+use Rattle.text_out.proofs.Writes.{and_then, cut, same_text, nothing, flat_map_take, flat_map_rest, flat_map_all}
 use Rattle.certificates.proofs.writing.put_short_items.Goals as goal
 
 pub loop-item-init : goal.loop-item-init

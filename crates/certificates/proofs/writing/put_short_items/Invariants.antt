@@ -2,7 +2,7 @@ use Rattle.std.proofs.Common.{◌∷◌, take, decimal}
 use Rattle.std.specs.Prelude.{Ok}
 use Rattle.std.specs.List.{flat_map}
 use Rattle.desk_io.specs.declared.faults.WriteFailed.{WriteFailed}
-use Rattle.certificates.specs.Written.{Gathered}
+use Rattle.text_out.specs.Written.{Gathered}
 use Rattle.certificates.proofs.writing.put_short_items.Given as goal
 
 -- the items so far were gathered

@@ -1,5 +1,8 @@
-use Rattle.std.proofs.Common.{◌≡◌, ◌∙◌, ℕ, arith, refl, subst}
+use Rattle.std.proofs.Common.{◌≡◌, ◌∙◌, ℕ, ◌<◌, length, arith, refl, subst}
+use Rattle.pivot_definitions.specs.Tableaus.{column_count}
+use Rattle.bland_laws.specs.Ways.{ways}
 use Rattle.pivot_rule.proofs.Steps.{RunSoFar, run_none, run_choosable, run_not_basic, run_more, ends_best, ends_wide, ends_out}
+use Rattle.pivot_rule.proofs.FewPivots.{few_pivots}
 use Rattle.pivot_rule.proofs.bland.run.Goals as goal
 
 pub loop-pivots-init : goal.loop-pivots-init
@@ -33,3 +36,8 @@ pub returns-in-None-clause-end : goal.returns-in-None-clause-end
 returns-in-None-clause-end c =
     let whole : c.loop-pivots.pivots ≡ c.args.budget = omega arith in
     ends_best c.args.tableau.now c.loop-pivots.tableau c.args.budget c.args.budget (omega arith) (subst (λ (n : ℕ). RunSoFar c.args.tableau.now n c.loop-pivots.tableau) whole c.loop-pivots.invariant.run) c.in-None.ensures.none
+
+pub returns-in-Some-choose-clause-few_pivots : goal.returns-in-Some-choose-clause-few_pivots
+returns-in-Some-choose-clause-few_pivots c =
+    let whole : c.loop-pivots.pivots ≡ c.args.budget = omega arith in
+    subst (λ (n : ℕ). n < ways (column_count c.args.tableau.now) (length c.args.tableau.now.basis)) whole (few_pivots c.args.tableau.now c.loop-pivots.tableau c.loop-pivots.pivots c.requires c.loop-pivots.invariant.run)

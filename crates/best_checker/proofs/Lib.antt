@@ -1,0 +1,4 @@
+pub mod LowestTerms
+pub mod StandInFacts
+pub mod Rightness
+pub mod OneBestAnswer

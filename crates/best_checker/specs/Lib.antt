@@ -1,0 +1,5 @@
+pub mod Amounts
+pub mod Abandonments
+pub mod Gains
+pub mod BestAnswers
+pub mod Laws

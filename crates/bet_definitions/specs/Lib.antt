@@ -1,0 +1,3 @@
+pub mod Tables
+pub mod Bets
+pub mod Laws

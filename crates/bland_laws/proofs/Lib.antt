@@ -1,0 +1,9 @@
+pub mod NumberTests
+pub mod Walks
+pub mod Directions
+pub mod BasisFixesObjective
+pub mod CircleStandsStill
+pub mod GreatestFickle
+pub mod FewBases
+pub mod BasesAreWays
+pub mod RunsAreShort

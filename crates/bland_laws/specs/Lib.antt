@@ -1,0 +1,4 @@
+pub mod Ways
+pub mod Bases
+pub mod PlainRuns
+pub mod Laws

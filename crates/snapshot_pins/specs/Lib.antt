@@ -1,0 +1,5 @@
+pub mod Values
+pub mod Copies
+pub mod Kept
+pub mod Cells
+pub mod Seen
