@@ -3,6 +3,7 @@ pub mod Tables
 pub mod ProgramTables
 pub mod Sizes
 pub mod Picked
+pub mod CoarseSheets
 pub mod Ranges
 pub mod WrittenPrograms
 pub mod EndFacts

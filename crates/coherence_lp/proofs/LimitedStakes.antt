@@ -1,7 +1,7 @@
 -- The stakes of a program with limits: each offer has the column after its number.
 use Rattle.std.proofs.Common.{◌≡◌, ℕ, zero, suc, ◌+◌, ◌/◌, ◌<◌, ◌≤◌, List, [], ◌∷◌, length, sym, ap, ◌∙◌, arith}
-use Rattle.std.specs.Prelude.{slice_index_or, Some}
-use Rattle.std.specs.List.{AllZip, range_with_len}
+use Rattle.std.specs.Prelude.{slice_index_or}
+use Rattle.std.specs.List.{AllZip}
 use Rattle.std.proofs.lemmas.List.{get_or-map}
 use Rattle.std.proofs.Math.Nat.{div-div-eq-div-mul}
 use Rattle.pivot_definitions.specs.Tableaus.{SimplexTableau}
@@ -11,7 +11,7 @@ use Rattle.scan_types.specs.declared.outcome.Outcome.{Outcome}
 use Rattle.settlement_definitions.specs.Classes.{classes_of}
 use Rattle.judging_definitions.specs.Columns.{offer_divisor}
 use Rattle.judging_definitions.specs.Stakes.{Fraction, column_value, stake_in_column, fractional_stakes, all_numbers, floors}
-use Rattle.judging_laws.proofs.Spread.{place, later, place_here, place_later}
+use Rattle.judging_laws.proofs.Spread.{place}
 use Rattle.judging_laws.proofs.Levels.{best_facts}
 use Rattle.judging_laws.proofs.Parts.{floors_within, place_in_range}
 use Rattle.coherence_lp.specs.Ends.{IsBestEnd, IsLimitedEnd}

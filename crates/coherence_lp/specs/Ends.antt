@@ -6,7 +6,8 @@ use Rattle.settlement_definitions.specs.Classes.{classes_of}
 use Rattle.pivot_definitions.specs.Programs.{LinearProgram}
 use Rattle.pivot_definitions.specs.Tableaus.{SimplexTableau}
 use Rattle.judging_definitions.specs.JudgingPrograms.{limited_program}
-use Rattle.judging_laws.specs.Laws.{IsAtBest, first_program}
+use Rattle.judging_definitions.specs.FirstRun.{first_program}
+use Rattle.judging_laws.specs.Laws.{IsAtBest}
 
 -- a run of some capped program is at its best at this tableau
 abbrev pub IsBestEnd : SimplexTableau → Type 0

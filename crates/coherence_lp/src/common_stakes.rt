@@ -1,4 +1,4 @@
-ghost use Rattle.std.specs.Prelude.{◌≡◌, ◌==◌, ◌<◌, ◌≤◌, length, position, IfOk, IfSome};
+ghost use Rattle.std.specs.Prelude.{◌≡◌, ◌==◌, ◌<◌, ◌≤◌, length, position, IfOk};
 ghost use Rattle.std.specs.List.{All};
 ghost use Rattle.settlement_definitions.specs.Classes.{classes_of};
 ghost use Rattle.settlement_definitions.specs.Scores.{HasScoresInRange};
@@ -11,6 +11,7 @@ ghost use Rattle.coherence_lp.specs.Ratios.{fraction_of, by_divisor, AreCommonSt
 
 use crate::factors::divisor_of_offer;
 use crate::fault::ReadingFault;
+use crate::offer_list::place_of;
 use crate::ratio::{CommonStakes, Ratio, Share};
 use crate::ratios::{column_ratio, step_stake};
 use finding_definitions::WideAt;
@@ -78,12 +79,4 @@ fn share_of(tableau: &Tableau, offer: &Offer, classes: &[Outcome], numbers: &[u3
             divisor: 1,
         },
     }
-}
-
-// The place of a number in a list.
-fn place_of(numbers: &[u32], i: u32) -> Option<usize>
-    ensures value { result ≡ position (λ number. number == i) numbers.now }
-    ensures within { IfSome result (λ place. place < length numbers.now) }
-{
-    numbers.iter().position(|number| *number == i)
 }

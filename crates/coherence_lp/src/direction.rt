@@ -3,7 +3,7 @@ ghost use Rattle.settlement_definitions.specs.Classes.{classes_of};
 ghost use Rattle.judging_definitions.specs.Columns.{leading_offers};
 ghost use Rattle.judging_definitions.specs.Readings.{Reads, ReadsWide, DirectionReads};
 ghost use Rattle.judging_definitions.specs.Stakes.{IsFittingDivisor};
-ghost use Rattle.judging_laws.specs.Laws.{first_stakes};
+ghost use Rattle.judging_definitions.specs.FirstRun.{first_stakes};
 ghost use Rattle.coherence_lp.specs.Ends.{IsFirstEnd};
 ghost use Rattle.coherence_lp.specs.Faults.{IfWide};
 

@@ -11,6 +11,7 @@
 #![tactic(auto)]
 
 mod asked;
+mod coarse;
 mod columns;
 mod common_stakes;
 mod direction;
@@ -29,6 +30,7 @@ mod ratios;
 mod rows;
 
 pub use asked::Needs;
+pub use coarse::{Coarse, coarse_down, coarse_up};
 pub use direction::read_direction;
 pub use fault::ReadingFault;
 pub use floors::read_floors;

@@ -17,6 +17,7 @@ use Rattle.finding_definitions.specs.declared.finding.WideAt.TheVariants.{Entry}
 use Rattle.judging_definitions.specs.Columns.{leading_offers}
 use Rattle.judging_definitions.specs.JudgingPrograms.{homogeneous_program, limited_program, plain_need, slack_need}
 use Rattle.judging_definitions.specs.Stakes.{fractional_stakes, all_numbers, floors, AreScaledFloors}
+use Rattle.judging_definitions.specs.CoarseFinding.{FirstOf, IsCoarseVerdict}
 use Rattle.judging_definitions.specs.Readings.{HasLevelOne, Reading, Reads, ReadsWide, MeasureReads, DirectionReads, PartsRead}
 
 -- the finding where a run passes 128 bits: the place
@@ -92,6 +93,15 @@ IsExactFinding offers budget finding =
     (AfterReading (MeasureReads classes end) First pivots (λ measure. finding ≡ Coherent measure) finding))
     finding
 
--- the finding of a sheet with a budget of pivots for each run
+-- the finding is wide in the first run, or in what is read at its end
+abbrev pub IsWideAtFirst : Finding → Type 0
+IsWideAtFirst (Wide First pivots place) = Unit {0}
+IsWideAtFirst _ = ⊥
+
+-- the coarse verdict, where the exact finding is wide in the first run
+abbrev pub IsCoarseInstead : List Offer → ℕ → Finding → Type 0
+IsCoarseInstead offers budget finding = (exact : Finding) × IsExactFinding offers budget exact × IsWideAtFirst exact × IsCoarseVerdict offers budget finding
+
+-- the finding of a sheet with a budget of pivots for each run: the exact one, except where that is wide in the first run and there is a coarse verdict; there it is the coarse verdict
 abbrev pub IsFindingOf : List Offer → ℕ → Finding → Type 0
-IsFindingOf offers budget finding = IsExactFinding offers budget finding
+IsFindingOf offers budget finding = FirstOf (IsCoarseInstead offers budget) (IsExactFinding offers budget) finding

@@ -1,7 +1,10 @@
 pub mod Columns
 pub mod JudgingPrograms
 pub mod MostProgram
+pub mod CoarseOdds
 pub mod Stakes
+pub mod FirstRun
 pub mod Readings
+pub mod CoarseFinding
 pub mod ExactFinding
 pub mod Laws

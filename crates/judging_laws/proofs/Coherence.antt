@@ -87,7 +87,7 @@ level_zero classes offers tableau reached best below =
           omega (arith, linear, product, same_out _ _ (gains_by_divisor classes tableau offer any_outcome)));
     }
 
-times_below : (m a b : ℤ) → pos 0 ≤ℤ m → a ≤ℤ b → (m *ℤ a) ≤ℤ (m *ℤ b)
+pub times_below : (m a b : ℤ) → pos 0 ≤ℤ m → a ≤ℤ b → (m *ℤ a) ≤ℤ (m *ℤ b)
 times_below m a b h k =
     let x = mul_not_negative m (b -ℤ a) h (omega (arith, linear, k)) in
     let e : m *ℤ (b -ℤ a) ≡ m *ℤ b -ℤ m *ℤ a = rw (dif_is m, dif_is a, dif_is b) (simp difs (dif_same _ _ _ _ (omega arith))) in

@@ -13,5 +13,6 @@ pub mod Gains
 pub mod Directions
 pub mod Limits
 pub mod Parts
+pub mod CoarseOdds
 pub mod RightFindings
 pub mod SpentRuns

@@ -28,7 +28,11 @@ use Rattle.judging_definitions.specs.Columns.{leading_offers}
 use Rattle.judging_definitions.specs.JudgingPrograms.{homogeneous_program, limited_program, plain_need, slack_need}
 use Rattle.judging_definitions.specs.Stakes.{fractional_stakes, all_numbers, floors}
 use Rattle.judging_definitions.specs.Readings.{HasLevelOne, NoneAbove, Reading, Reads, class_weights, weighted_classes, MeasureReads, IsDirection, DirectionReads, AreParts, PartsRead}
-use Rattle.judging_definitions.specs.ExactFinding.{AfterRun, AfterReading, IsFoundWithinLimits, IsFoundByPlainRun, IsFoundBySlackRun, IsFoundInDirection, IsExactFinding}
+use Rattle.judging_definitions.specs.ExactFinding.{AfterRun, AfterReading, IsFoundWithinLimits, IsFoundByPlainRun, IsFoundBySlackRun, IsFoundInDirection, IsExactFinding, IsFindingOf}
+use Rattle.judging_definitions.specs.CoarseOdds.{raised_offers}
+use Rattle.judging_definitions.specs.FirstRun.{first_program}
+use Rattle.judging_definitions.specs.CoarseFinding.{IsCoarseVerdict}
+use Rattle.judging_laws.proofs.CoarseOdds.{raised_measure_is_right}
 use Rattle.judging_laws.proofs.ProgramRows.{homogeneous_is_capped, limited_is_capped}
 use Rattle.judging_laws.proofs.Levels.{best_facts}
 use Rattle.judging_laws.proofs.KeptReadings.{same_weights, level_kept, level_plain, stakes_scaled, read_alike, direction_there, parts_there}
@@ -198,8 +202,16 @@ direction_right : (offers : List Offer) (budget : ℕ) (direction : Fractions) (
 direction_right offers budget direction finding directed (stakes, are, inl (arbitrage, is)) = subst (IsRight offers) (sym is) arbitrage
 direction_right offers budget direction finding directed (stakes, are, inr (fails, next)) = slack_right offers budget direction finding directed next
 
--- the finding of a sheet with a budget is right
-pub exact_finding_right : (offers : List Offer) (budget : ℕ) (finding : Finding) → IsExactFinding offers budget finding → IsRight offers finding
+-- a measure that is read below level 1 of the first run is right
+measure_right : (offers : List Offer) (budget pivots : ℕ) (end : SimplexTableau) (measure : List (Outcome × ℕ)) → EndsBest (built (first_program offers)) budget pivots end → (HasLevelOne end → ⊥) → MeasureReads (classes_of offers) end (Reads measure) → IsRightCoherent offers measure
+measure_right offers budget pivots end measure ends below reads =
+    let classes = classes_of offers in
+    let columns = map (λ (e : ℕ × Offer). e.1) (leading_offers offers classes) in
+    let at = stands (first_program offers) budget pivots end (homogeneous_is_capped classes columns) ends in
+    subst (IsRightCoherent offers) (sym (kept_measure classes end measure reads.1)) (coherent offers (kept end) at.reached at.best (below_kept end below) (kept_small classes end reads.0))
+
+-- the finding of a sheet by exact programs is right
+exact_finding_right : (offers : List Offer) (budget : ℕ) (finding : Finding) → IsExactFinding offers budget finding → IsRight offers finding
 exact_finding_right offers budget finding found =
     let classes = classes_of offers in
     let leading = leading_offers offers classes in
@@ -216,7 +228,19 @@ exact_finding_right offers budget finding found =
           (record { tableau = kept end; reached = at.reached; best = at.best; one = level_kept end one; is = direction_there offers stakes (fractional_stakes classes offers numbers (kept end)) (Reads d) alike reads }) next)
           more
       | inr (below, more) ↦ after_reading offers (MeasureReads classes end) First pivots (λ m. finding ≡ Coherent m) finding
-          (λ m reads is. subst (IsRight offers) (sym is)
-          (subst (IsRightCoherent offers) (sym (kept_measure classes end m reads.1)) (coherent offers (kept end) at.reached at.best (below_kept end below) (kept_small classes end reads.0))))
+          (λ m reads is. subst (IsRight offers) (sym is) (measure_right offers budget pivots end m ends below reads))
           more
     ]) found
+
+-- ---- coarse odds
+
+pub coarse_right : (offers : List Offer) (budget : ℕ) (finding : Finding) → IsCoarseVerdict offers budget finding → IsRight offers finding
+coarse_right offers budget finding (inl m) =
+    let found = m.2 in
+    subst (IsRight offers) (sym found.is) (raised_measure_is_right offers found.measure (measure_right (raised_offers offers) budget m.1.pivots m.0 found.measure m.1.ends found.level_zero found.reads))
+coarse_right offers budget finding (inr (none, s)) = let found = s.2.stakes in subst (IsRight offers) (sym found.is) found.arbitrage
+
+-- the finding of a sheet with a budget is right
+pub finding_right : (offers : List Offer) (budget : ℕ) (finding : Finding) → IsFindingOf offers budget finding → IsRight offers finding
+finding_right offers budget finding (inl coarse) = coarse_right offers budget finding coarse.3
+finding_right offers budget finding (inr (none, exact)) = exact_finding_right offers budget finding exact

@@ -15,7 +15,8 @@ use Rattle.judging_definitions.specs.Columns.{leading_offers}
 use Rattle.judging_definitions.specs.JudgingPrograms.{plain_need, slack_need}
 use Rattle.judging_definitions.specs.Stakes.{fractional_stakes, all_numbers}
 use Rattle.judging_definitions.specs.Readings.{Reading, MeasureReads, DirectionReads, PartsRead}
-use Rattle.judging_definitions.specs.ExactFinding.{AfterRun, AfterReading, IsFoundWithinLimits, IsFoundByPlainRun, IsFoundBySlackRun, IsFoundInDirection}
+use Rattle.judging_definitions.specs.ExactFinding.{AfterRun, AfterReading, IsFoundWithinLimits, IsFoundByPlainRun, IsFoundBySlackRun, IsFoundInDirection, IsExactFinding}
+use Rattle.judging_definitions.specs.CoarseFinding.{IsCoarseVerdict}
 use Rattle.judging_laws.specs.SpentRuns.{program_of, MadeFewPivots, SpentRunIsShort}
 use Rattle.judging_laws.proofs.ProgramRows.{homogeneous_is_capped, limited_is_capped}
 
@@ -55,8 +56,8 @@ direction_few : (offers : List Offer) (budget : ℕ) (direction : Fractions) (fi
 direction_few offers budget direction finding (stakes, are, inl (arbitrage, is)) = subst (MadeFewPivots offers) (sym is) tt
 direction_few offers budget direction finding (stakes, are, inr (fails, next)) = slack_few offers budget direction finding next
 
-pub spent_run_is_short : SpentRunIsShort
-spent_run_is_short offers budget finding found =
+exact_few : (offers : List Offer) (budget : ℕ) (finding : Finding) → IsExactFinding offers budget finding → MadeFewPivots offers finding
+exact_few offers budget finding found =
     let classes = classes_of offers in
     let leading = leading_offers offers classes in
     let numbers = map (λ (e : ℕ × Offer). e.0) leading in
@@ -64,3 +65,11 @@ spent_run_is_short offers budget finding found =
       | inl (one, more) ↦ after_reading offers (DirectionReads offers (fractional_stakes classes offers numbers end)) First pivots (λ d. IsFoundInDirection offers budget d finding) finding (λ d next. direction_few offers budget d finding next) more
       | inr (below, more) ↦ after_reading offers (MeasureReads classes end) First pivots (λ m. finding ≡ Coherent m) finding (λ m is. subst (MadeFewPivots offers) (sym is) tt) more
     ]) found
+
+coarse_few : (offers : List Offer) (budget : ℕ) (finding : Finding) → IsCoarseVerdict offers budget finding → MadeFewPivots offers finding
+coarse_few offers budget finding (inl measure) = subst (MadeFewPivots offers) (sym measure.2.is) tt
+coarse_few offers budget finding (inr (none, stakes)) = subst (MadeFewPivots offers) (sym stakes.2.stakes.is) tt
+
+pub spent_run_is_short : SpentRunIsShort
+spent_run_is_short offers budget finding (inl coarse) = coarse_few offers budget finding coarse.3
+spent_run_is_short offers budget finding (inr (none, exact)) = exact_few offers budget finding exact

@@ -1,5 +1,6 @@
--- Laws of the programs of a sheet, of what is read at the best end of a run, and of findings.
-use Rattle.std.specs.Prelude.{◌≡◌, ◌↔◌, ℕ, List, map, ℤ, ◌≤ℤ◌, ◌<ℤ◌}
+-- Laws of the programs of a sheet, of what is read at the best end of a run, of coarse odds, and of findings.
+use Rattle.std.specs.Prelude.{◌≡◌, ◌↔◌, ℕ, Bool, List, length, map, filter, ℤ, ◌≤ℤ◌, ◌<ℤ◌}
+use Rattle.std.specs.List.{enumerate_from}
 use Rattle.scan_types.specs.declared.limits.TheConstants.{MOST_PART}
 use Rattle.scan_types.specs.declared.offer.Offer.{Offer}
 use Rattle.scan_types.specs.declared.outcome.Outcome.{Outcome}
@@ -14,10 +15,11 @@ use Rattle.finding_definitions.specs.Verdicts.{reach, IsRightCoherent}
 use Rattle.finding_definitions.specs.Findings.{IsRight}
 use Rattle.finding_definitions.specs.Fractions.{Fractions}
 use Rattle.finding_definitions.specs.declared.finding.Finding.{Finding}
-use Rattle.judging_definitions.specs.Columns.{leading_offers}
 use Rattle.judging_definitions.specs.JudgingPrograms.{homogeneous_program, limited_program, plain_need, slack_need}
 use Rattle.judging_definitions.specs.Stakes.{Fraction, fractional_stakes, all_numbers, floors}
 use Rattle.judging_definitions.specs.Readings.{HasLevelOne, NoneAbove, Reading, class_weights, weighted_classes, MeasureReads, IsDirection, DirectionReads, AreParts, PartsRead}
+use Rattle.judging_definitions.specs.FirstRun.{first_program, first_stakes}
+use Rattle.judging_definitions.specs.CoarseOdds.{raised_offers, kept_numbers, lowered_offers, with_zeros}
 use Rattle.judging_definitions.specs.ExactFinding.{IsFindingOf}
 
 -- the program without limits is one whose last row caps the level
@@ -27,14 +29,6 @@ HomogeneousIsCapped = (classes : List Outcome) (offers : List Offer) → IsProgr
 -- and so is a program with limits
 abbrev pub LimitedIsCapped : Type 0
 LimitedIsCapped = (classes : List Outcome) (offers : List Offer) (asked : Outcome → ℤ) → IsProgram (limited_program classes offers asked) × IsCapped (limited_program classes offers asked)
-
--- the program without limits of a sheet
-abbrev pub first_program : List Offer → LinearProgram
-first_program offers = homogeneous_program (classes_of offers) (map (λ offer. offer.1) (leading_offers offers (classes_of offers)))
-
--- the fractional stakes of a tableau of that program
-abbrev pub first_stakes : List Offer → SimplexTableau → List Fraction
-first_stakes offers tableau = fractional_stakes (classes_of offers) offers (map (λ offer. offer.0) (leading_offers offers (classes_of offers))) tableau
 
 -- the fractional stakes of a tableau of a program with limits
 abbrev pub limited_stakes : List Offer → SimplexTableau → List Fraction
@@ -87,6 +81,21 @@ SameParts = (classes : List Outcome) (offers : List Offer) (numbers : List ℕ) 
 -- and the same stakes rounded down
 abbrev pub SameFloors : Type 0
 SameFloors = (classes : List Outcome) (offers : List Offer) (numbers : List ℕ) (plain : SimplexTableau) → floors (fractional_stakes classes offers numbers plain) ≡ floors (fractional_stakes classes offers numbers (kept plain))
+
+-- a measure by which no offer gains on average at odds rounded up is one by which none gains at the odds of the sheet
+abbrev pub RaisedMeasureIsRight : Type 0
+RaisedMeasureIsRight = (offers : List Offer) (measure : List (Outcome × ℕ)) → IsRightCoherent (raised_offers offers) measure → IsRightCoherent offers measure
+
+-- stakes on some of the offers of a sheet gain as much as the same stakes with 0 on each offer that is left out
+abbrev pub LeftOutGainNothing : Type 0
+LeftOutGainNothing =
+    (keeps : ℕ × Offer → Bool) (offers : List Offer) (items : List ℕ) (x : Outcome)
+    → let kept = filter keeps (enumerate_from 0 offers) in total_gain offers (with_zeros (map (λ offer. offer.0) kept) items (length offers)) x ≡ total_gain (map (λ offer. offer.1) kept) items x
+
+-- stakes gain no less at the odds of the sheet than at odds rounded down
+abbrev pub LoweredStakesGainNoLess : Type 0
+LoweredStakesGainNoLess =
+    (offers : List Offer) (items : List ℕ) (x : Outcome) → total_gain (lowered_offers offers) items x ≤ℤ total_gain offers (with_zeros (kept_numbers offers) items (length offers)) x
 
 -- a verdict that is the finding of a sheet with a budget is right, and so is a narrow finding
 abbrev pub FindingIsRight : Type 0

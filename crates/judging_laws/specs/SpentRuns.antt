@@ -10,7 +10,7 @@ use Rattle.finding_definitions.specs.declared.finding.Stage.{Stage}
 use Rattle.finding_definitions.specs.declared.finding.Stage.TheVariants.{First, Slack, Plain}
 use Rattle.judging_definitions.specs.Columns.{leading_offers}
 use Rattle.judging_definitions.specs.JudgingPrograms.{homogeneous_program, limited_program, plain_need, slack_need}
-use Rattle.judging_definitions.specs.ExactFinding.{IsExactFinding}
+use Rattle.judging_definitions.specs.ExactFinding.{IsFindingOf}
 
 -- the program of a stage
 abbrev pub program_of : List Offer → Stage → LinearProgram
@@ -23,6 +23,6 @@ abbrev pub MadeFewPivots : List Offer → Finding → Type 0
 MadeFewPivots offers (OutOfPivots stage pivots) = pivots < basis_count (program_of offers stage)
 MadeFewPivots offers _ = Unit {0}
 
--- so it is with the finding by exact programs
+-- so it is with the finding of a sheet
 abbrev pub SpentRunIsShort : Type 0
-SpentRunIsShort = (offers : List Offer) (budget : ℕ) (finding : Finding) → IsExactFinding offers budget finding → MadeFewPivots offers finding
+SpentRunIsShort = (offers : List Offer) (budget : ℕ) (finding : Finding) → IsFindingOf offers budget finding → MadeFewPivots offers finding

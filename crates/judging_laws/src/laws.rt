@@ -1,4 +1,5 @@
-ghost use Rattle.judging_laws.specs.Laws.{HomogeneousIsCapped, LimitedIsCapped, LevelZeroIsCoherent, LevelOneGains, BelowLevelOneMoreIsAsked, PartsReachUnit, SlackFloorsAreArbitrage, SameLevel, SameMeasure, SameDirection, SameParts, SameFloors, FindingIsRight};
+ghost use Rattle.judging_laws.specs.Laws.{HomogeneousIsCapped, LimitedIsCapped, LevelZeroIsCoherent, LevelOneGains, BelowLevelOneMoreIsAsked, PartsReachUnit, SlackFloorsAreArbitrage, SameLevel, SameMeasure, SameDirection, SameParts, SameFloors};
+ghost use Rattle.judging_laws.specs.Laws.{RaisedMeasureIsRight, LeftOutGainNothing, LoweredStakesGainNoLess, FindingIsRight};
 
 /// Both programs of a sheet are programs whose last row caps the level.
 pub fn programs_are_capped()
@@ -32,6 +33,14 @@ pub fn kept_forms_read_alike()
     ensures direction { SameDirection }
     ensures parts { SameParts }
     ensures floors { SameFloors }
+{}
+
+/// What is found with coarse odds holds for the odds of the sheet. A measure that lets no offer gain on average at odds
+/// rounded up lets none gain. Stakes gain no less than at odds rounded down, with 0 on each offer that is left out.
+pub fn coarse_odds_are_careful()
+    ensures measure { RaisedMeasureIsRight }
+    ensures left_out { LeftOutGainNothing }
+    ensures stakes { LoweredStakesGainNoLess }
 {}
 
 /// A verdict that is the finding of a sheet with a budget is right, and so is a narrow finding.

@@ -9,8 +9,8 @@ use Rattle.scan_types.specs.declared.offer.Offer.{Offer}
 use Rattle.finding_definitions.specs.declared.finding.Finding.{Finding}
 use Rattle.finding_definitions.specs.Findings.{IsRight}
 use Rattle.judging_definitions.specs.ExactFinding.{IsFindingOf}
-use Rattle.judging_definitions.proofs.OneFinding.{exact_finding_one}
-use Rattle.judging_laws.proofs.RightFindings.{exact_finding_right}
+use Rattle.judging_definitions.proofs.OneCoarseVerdict.{finding_one}
+use Rattle.judging_laws.proofs.RightFindings.{finding_right}
 use Rattle.report_definitions.specs.declared.match_part.MatchPart.{MatchPart}
 use Rattle.report_definitions.specs.Seen.{SeenFeed, IsQuoted, sheet_of}
 use Rattle.report_definitions.specs.Report.{report_text, AreMatchesOf, IsReport}
@@ -30,7 +30,7 @@ part_same : (budget : ℕ) (feeds : List SeenFeed) (a b : MatchPart) → a.match
     → IsFindingOf a.sheet budget a.finding → IsFindingOf b.sheet budget b.finding → a ≡ b
 part_same budget feeds a b e p q f g =
     let sheets : a.sheet ≡ b.sheet = p ∙ (ap (sheet_of feeds) e ∙ sym q) in
-    let found : a.finding ≡ b.finding = exact_finding_one b.sheet budget a.finding b.finding (subst (λ (s : List Offer). IsFindingOf s budget a.finding) sheets f) g in
+    let found : a.finding ≡ b.finding = finding_one b.sheet budget a.finding b.finding (subst (λ (s : List Offer). IsFindingOf s budget a.finding) sheets f) g in
     let N : List ℕ → MatchPart = λ x. record { match_name = x; sheet = a.sheet; finding = a.finding } in
     let S : List Offer → MatchPart = λ x. record { match_name = b.match_name; sheet = x; finding = a.finding } in
     let F : Finding → MatchPart = λ x. record { match_name = b.match_name; sheet = b.sheet; finding = x } in
@@ -57,4 +57,4 @@ one_report budget feeds bytes other p q =
     p.text ∙ (ap (report_text budget (map (λ seen. seen.part) feeds)) (one_list budget feeds p.matches q.matches p.are q.are) ∙ sym q.text)
 
 pub all_right : (budget : ℕ) (feeds : List SeenFeed) (matches : List MatchPart) → AreMatchesOf budget feeds matches → All (λ part. IsRight part.sheet part.finding) matches
-all_right budget feeds matches p = λ i d h. exact_finding_right _ budget _ (p.found i d h)
+all_right budget feeds matches p = λ i d h. finding_right _ budget _ (p.found i d h)

@@ -7,5 +7,6 @@ pub mod Alike
 pub mod AlikeSums
 pub mod FiveGains
 pub mod SameBets
+pub mod RaisedOdds
 pub mod CanLose
 pub mod Roundings

@@ -102,6 +102,11 @@ abbrev pub SameBetsGainAlike : Type 0
 SameBetsGainAlike =
     (one other : Offer) (x y : Outcome) → one.selection ≡ other.selection → one.rule ≡ other.rule → gain one x ≡ gain one y → gain other x ≡ gain other y
 
+-- the same bet at higher odds gains at least as much at every outcome
+abbrev pub RaisingOddsLowersNoGain : Type 0
+RaisingOddsLowersNoGain =
+    (low high : Offer) (x : Outcome) → low.selection ≡ high.selection → low.rule ≡ high.rule → low.odds.thousandths ≤ high.odds.thousandths → gain low x ≤ℤ gain high x
+
 -- every bet loses its whole stake at some final score
 abbrev pub EachBetCanLose : Type 0
 EachBetCanLose = (offer : Offer) → (home : ℕ) × (away : ℕ) × (gain offer (Full home away) ≡ negsuc 1999)

@@ -1,6 +1,6 @@
 ghost use Rattle.settlement_laws.specs.Laws.{FinalTestIsExact, AlikeTestIsExact};
 ghost use Rattle.settlement_laws.specs.Laws.{HighScoresByLead, HighScoresStandLast, StandInSettlesAlike, EachHasStandIn, NetAtEachOutcome, GainAtEachOutcome, EachHasClass};
-ghost use Rattle.settlement_laws.specs.Laws.{NinetyEightStandIns, FiveGains, SameBetsGainAlike, EachBetCanLose, SlackCoversRounding};
+ghost use Rattle.settlement_laws.specs.Laws.{NinetyEightStandIns, FiveGains, SameBetsGainAlike, RaisingOddsLowersNoGain, EachBetCanLose, SlackCoversRounding};
 ghost use Rattle.settlement_laws.specs.Laws.{EqualNeeds, EqualNets, EqualGains, EqualSlacks, NetFromClasses, GainFromClasses, SlackFromClasses};
 
 /// The test `is_final` is true exactly of the final scores. The test `settle_alike` is true exactly if
@@ -65,6 +65,11 @@ pub fn a_bet_gains_one_of_five_amounts()
 /// Offers of one selection and rule gain alike at the same outcomes, whatever their odds.
 pub fn same_bets_gain_alike()
     ensures { SameBetsGainAlike }
+{}
+
+/// The same bet at higher odds gains at least as much at every outcome.
+pub fn raising_odds_lowers_no_gain()
+    ensures { RaisingOddsLowersNoGain }
 {}
 
 /// Every bet loses its whole stake at some final score.

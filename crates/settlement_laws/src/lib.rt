@@ -5,7 +5,7 @@
 //! sums of nets, gains and slacks, whatever the stakes. So a bound that holds at the stand-ins, or at the
 //! classes, holds at every outcome.
 //!
-//! A bet gains one of five amounts, and which one does not depend on its odds. Every bet can lose its whole stake, and slack covers what rounding a stake down costs.
+//! A bet gains one of five amounts, which one does not depend on its odds, and higher odds make none less. Every bet can lose its whole stake, and slack covers what rounding a stake down costs.
 #![tactic(auto)]
 
 pub mod laws;

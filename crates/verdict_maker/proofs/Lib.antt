@@ -1,3 +1,4 @@
 pub mod RunFacts
 pub mod TurnFacts
 pub mod ScaleFacts
+pub mod CoarseFacts

@@ -24,7 +24,8 @@ use Rattle.judging_definitions.specs.Columns.{leading_offers}
 use Rattle.judging_definitions.specs.Stakes.{all_numbers, floors}
 use Rattle.judging_definitions.specs.Readings.{HasLevelOne, Reading, Reads, ReadsWide, MeasureReads, DirectionReads, PartsRead, IsDirection}
 use Rattle.judging_definitions.specs.ExactFinding.{AfterReading, IsFoundWithinLimits}
-use Rattle.judging_laws.specs.Laws.{first_stakes, limited_stakes, IsAtBest, first_program}
+use Rattle.judging_definitions.specs.FirstRun.{first_program, first_stakes}
+use Rattle.judging_laws.specs.Laws.{limited_stakes, IsAtBest}
 use Rattle.judging_laws.proofs.KeptReadings.{same_level, same_measure, same_direction, same_parts, same_floors}
 use Rattle.judging_laws.proofs.Directions.{direction_gains}
 use Rattle.coherence_lp.specs.declared.fault.ReadingFault.{ReadingFault}
@@ -46,6 +47,9 @@ read_nothing B reads other stage pivots next finding fault moved wide unread =
 
 pub level_there : (plain left : SimplexTableau) → left ≡ kept plain → HasLevelOne left → HasLevelOne plain
 level_there plain left e one = (same_level plain).1 (subst HasLevelOne e one)
+
+pub level_here : (plain left : SimplexTableau) → left ≡ kept plain → HasLevelOne plain → HasLevelOne left
+level_here plain left e one = subst HasLevelOne (sym e) ((same_level plain).0 one)
 
 pub no_level_there : (plain left : SimplexTableau) → left ≡ kept plain → (HasLevelOne left → ⊥) → HasLevelOne plain → ⊥
 no_level_there plain left e below one = below (subst HasLevelOne (sym e) ((same_level plain).0 one))
@@ -82,7 +86,7 @@ direction_long offers tableau direction is = AllZip-long (λ (offer : Offer) (pa
 none_out : (g rest : ℤ) → pos 1 ≤ℤ (pos 0 *ℤ g +ℤ rest) → pos 1 ≤ℤ rest
 none_out g rest h = let e = zero_times g in let k = subst (λ z. pos 1 ≤ℤ (z +ℤ rest)) e h in omega (arith, linear, k)
 
-some_item : (offers : List Offer) (items : List ℕ) (x : Outcome) → pos 1 ≤ℤ total_gain offers items x → HasSome items
+pub some_item : (offers : List Offer) (items : List ℕ) (x : Outcome) → pos 1 ≤ℤ total_gain offers items x → HasSome items
 some_item [] items x h = absurd (omega (arith, ints, h))
 some_item (offer ∷ offers) [] x h = absurd (omega (arith, ints, h))
 some_item (offer ∷ offers) (zero ∷ items) x h =

@@ -11,7 +11,8 @@ use Rattle.finding_definitions.specs.declared.finding.Stage.TheVariants.{First, 
 use Rattle.judging_definitions.specs.Stakes.{floors}
 use Rattle.judging_definitions.specs.Readings.{HasLevelOne, MeasureReads, DirectionReads}
 use Rattle.judging_definitions.specs.ExactFinding.{Either, AfterReading, IsFoundInDirection, IsFoundByPlainRun, IsFoundWithinLimits}
-use Rattle.judging_laws.specs.Laws.{first_stakes, limited_stakes}
+use Rattle.judging_definitions.specs.FirstRun.{first_stakes}
+use Rattle.judging_laws.specs.Laws.{limited_stakes}
 
 -- a finding follows from the tableau that is left, whatever plain tableau it is the kept form of
 abbrev pub FromKept : SimplexTableau → (SimplexTableau → Finding → Type 0) → Finding → Type 0

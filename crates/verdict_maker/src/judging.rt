@@ -4,20 +4,21 @@ ghost use Rattle.settlement_definitions.specs.Classes.{classes_of};
 ghost use Rattle.judging_definitions.specs.Columns.{leading_offers};
 ghost use Rattle.judging_definitions.specs.JudgingPrograms.{limited_program, slack_need};
 ghost use Rattle.judging_definitions.specs.ExactFinding.{IsExactFinding, IsFoundInDirection, IsFoundBySlackRun, IsFoundByPlainRun};
-ghost use Rattle.judging_laws.specs.Laws.{IsAtBest, first_program};
+ghost use Rattle.judging_definitions.specs.FirstRun.{first_program};
+ghost use Rattle.judging_laws.specs.Laws.{IsAtBest};
 ghost use Rattle.verdict_maker.specs.Turns.{FromKept, AfterFirst, AfterSlack, HasSome};
 
+use crate::first_run::{FirstRun, first_run};
 use crate::runs::{Ran, run_program};
 use crate::scaling::scaled_floors;
 use crate::turns::{after_plain_run, says_yes, unread};
 use coherence_lp::{
-    Needs, OfferList, has_level_one, homogeneous, leading, limited, read_direction, read_floors,
-    read_measure,
+    Needs, OfferList, has_level_one, limited, read_direction, read_floors, read_measure,
 };
 use finding_definitions::{Finding, Measure, Parts, Stage};
 use fraction_tableau::Tableau;
 use scan_types::{Sheet, WantOfMemory};
-use settle_classes::{ClassList, classes};
+use settle_classes::ClassList;
 use std::alloc::Global;
 
 /// Step 5: the program with limits and no slack.
@@ -155,14 +156,15 @@ pub fn exact_finding(
 ) -> Result<Finding, WantOfMemory>
     ensures { IfOk result (IsExactFinding sheet.now budget) }
 {
-    let outcomes = classes(alloc, sheet)?;
-    let leading = leading(alloc, sheet, &outcomes)?;
-    let program = homogeneous(alloc, sheet, &outcomes, &leading)?;
-    let ran = run_program(tableau, budget, &program, Stage::First)?;
+    let FirstRun {
+        classes,
+        leading,
+        ran,
+    } = first_run(alloc, tableau, budget, sheet)?;
     match ran {
         Ran::Open(finding) => Ok(finding),
         Ran::AtBest(pivots) => {
-            after_first_run(alloc, tableau, budget, sheet, &outcomes, &leading, pivots)
+            after_first_run(alloc, tableau, budget, sheet, &classes, &leading, pivots)
         }
     }
 }

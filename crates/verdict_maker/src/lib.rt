@@ -7,6 +7,8 @@
 #![tactic(auto)]
 
 mod bench;
+mod coarse;
+mod first_run;
 mod judges;
 mod judging;
 mod law;
@@ -14,7 +16,7 @@ mod runs;
 mod scaling;
 mod turns;
 
-pub use bench::{Bench, judge};
+pub use bench::{Bench, coarse_verdict, judge};
 pub use law::FindingLaw;
 
 #[cfg(test)]

@@ -13,7 +13,7 @@ use Rattle.judging_definitions.specs.declared.limits.TheConstants.{MOST_COMMON_D
 use Rattle.judging_definitions.specs.Columns.{leading_offers}
 use Rattle.judging_definitions.specs.Stakes.{Fraction, fractional_stakes, IsFittingDivisor}
 use Rattle.judging_definitions.specs.Readings.{NoneAbove, FirstWideDenominator}
-use Rattle.judging_laws.specs.Laws.{first_stakes}
+use Rattle.judging_definitions.specs.FirstRun.{first_stakes}
 use Rattle.coherence_lp.specs.Ratios.{AreCommonStakes, item_of, IsWideStake}
 use Rattle.coherence_lp.proofs.EndFacts.{reached_shape}
 use Rattle.coherence_lp.proofs.StakeLists.{length-stakes, numerators}

@@ -1,5 +1,5 @@
 use Rattle.judging_laws.proofs.laws.findings_are_right.Goals as goal
-use Rattle.judging_laws.proofs.RightFindings.{exact_finding_right}
+use Rattle.judging_laws.proofs.RightFindings.{finding_right}
 
 pub returns : goal.returns
-returns c = exact_finding_right
+returns c = finding_right

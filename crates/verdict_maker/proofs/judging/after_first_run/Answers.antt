@@ -7,7 +7,7 @@ use Rattle.finding_definitions.specs.declared.finding.Finding.TheVariants.{Coher
 use Rattle.finding_definitions.specs.declared.finding.Stage.TheVariants.{First}
 use Rattle.judging_definitions.specs.Readings.{MeasureReads, DirectionReads}
 use Rattle.judging_definitions.specs.ExactFinding.{IsFoundInDirection}
-use Rattle.judging_laws.specs.Laws.{first_stakes}
+use Rattle.judging_definitions.specs.FirstRun.{first_stakes}
 use Rattle.verdict_maker.proofs.TurnFacts.{read_value, read_nothing, level_there, no_level_there, measure_there, direction_there, direction_long, direction_some}
 use Rattle.verdict_maker.proofs.judging.after_first_run.Goals as goal
 

@@ -1,0 +1,28 @@
+use Rattle.std.proofs.Common.{List, subst}
+use Rattle.std.proofs.lemmas.Result.{IfOk-weaker}
+use Rattle.scan_types.specs.declared.offer.Offer.{Offer}
+use Rattle.finding_definitions.specs.declared.finding.Stage.TheVariants.{First}
+use Rattle.judging_definitions.specs.FirstRun.{first_program}
+use Rattle.verdict_maker.specs.declared.runs.Ran.TheVariants.{Open}
+use Rattle.verdict_maker.specs.Runs.{RanAs, LeavesBest}
+use Rattle.verdict_maker.proofs.CoarseFacts.{coarse_stakes_open, coarse_stakes_best}
+use Rattle.verdict_maker.proofs.coarse.coarse_stakes.Goals as goal
+
+pub returns-in-Open : goal.returns-in-Open
+returns-in-Open c =
+    let budget = c.args.budget in
+    let left = c.first_run.new.tableau in
+    let ran = subst (λ r. RanAs (first_program c.in_ok-coarse.coarse.sheet) budget First r left) c.in-Open.is c.in_ok-first.ensures.ran in
+    let there = subst (λ (offers : List Offer). RanAs (first_program offers) budget First (Open c.in-Open.field-0) left) c.in_ok-coarse.ensures.sheet ran in
+    coarse_stakes_open c.args.sheet.now budget First c.in-Open.field-0 there
+
+pub returns : goal.returns
+returns c =
+    let budget = c.args.budget in
+    let left = c.first_run.new.tableau in
+    let pivots = c.in-AtBest.field-0 in
+    let ran : LeavesBest (first_program c.in_ok-coarse.coarse.sheet) budget pivots left = subst (λ r. RanAs (first_program c.in_ok-coarse.coarse.sheet) budget First r left) c.in-AtBest.is c.in_ok-first.ensures.ran in
+    let there = subst (λ (offers : List Offer). LeavesBest (first_program offers) budget pivots left) c.in_ok-coarse.ensures.sheet ran in
+    IfOk-weaker c.stakes_at_level_one.result _ _
+    (λ found is. coarse_stakes_best c.args.sheet.now budget pivots left found there is)
+    c.stakes_at_level_one.ensures
