@@ -22,11 +22,12 @@ use Rattle.price_duality.proofs.MostGain.{most_gained}
 use Rattle.coherence_lp.specs.declared.fault.ReadingFault.{ReadingFault}
 use Rattle.coherence_lp.specs.declared.fault.ReadingFault.TheVariants as faults
 use Rattle.coherence_lp.specs.Faults.{IfWide}
+use Rattle.bland_laws.proofs.RunsAreShort.{out_of_pivots_is_short}
 use Rattle.best_laws.specs.Laws.{most_program}
 use Rattle.best_laws.proofs.RightBest.{right_best}
 use Rattle.best_stakes.specs.declared.out.BestOut.{BestOut}
 use Rattle.best_stakes.specs.declared.out.BestOut.TheVariants.{Best, Wide, OutOfPivots}
-use Rattle.best_stakes.specs.BestFound.{ReadWith, ReadAs, IsBestOf, IsRightOut, GainsMostOut}
+use Rattle.best_stakes.specs.BestFound.{ReadWith, ReadAs, IsBestOf, IsRightOut, GainsMostOut, MadeFewPivots}
 
 -- a reading that gives no value
 pub wide_place : {A : Type 0} (B : Type 0) (reads : Reading A → Type 0) (pivots : ℕ) (out : BestOut) (fault : ReadingFault) → IfWide {A = B} (Err fault) (λ place. reads (ReadsWide place)) → (place : WideAt) × (fault ≡ faults.Wide place) × (out ≡ Wide pivots place) → (place : WideAt) × reads (ReadsWide place) × (out ≡ Wide pivots place)
@@ -85,3 +86,16 @@ pub gains_most : (offers : List Offer) (out : BestOut) → IsRightOut offers out
 gains_most offers (Best parts measure) right = most_gained offers parts.divisor parts.parts measure right
 gains_most offers (Wide pivots place) right = tt
 gains_most offers (OutOfPivots pivots) right = tt
+
+-- a run that is out of pivots was short
+pub few_pivots : (offers : List Offer) (budget : ℕ) (out : BestOut) → IsBestOf offers budget out → MadeFewPivots offers out
+few_pivots offers budget out (inl w) = subst (MadeFewPivots offers) (sym w.5) tt
+few_pivots offers budget out (inr (inl s)) =
+    let capped = limited_is_capped (classes_of offers) offers (most_need offers) in
+    subst (MadeFewPivots offers) (sym s.3) (out_of_pivots_is_short (most_program offers) capped.0 capped.1 budget s.0 s.1 s.2)
+few_pivots offers budget out (inr (inr b)) = few_read offers b.1 b.0 out b.3
+  where
+    few_read : (offers : List Offer) (end : SimplexTableau) (pivots : ℕ) (out : BestOut) → ReadAs offers end pivots out → MadeFewPivots offers out
+    few_read offers end pivots out (inr w) = subst (MadeFewPivots offers) (sym w.2) tt
+    few_read offers end pivots out (inl (parts, reads, inr w)) = subst (MadeFewPivots offers) (sym w.2) tt
+    few_read offers end pivots out (inl (parts, reads, inl m)) = subst (MadeFewPivots offers) (sym m.2) tt

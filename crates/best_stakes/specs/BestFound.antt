@@ -1,5 +1,5 @@
 -- What comes of the run for the best stakes of a sheet with a budget of pivots.
-use Rattle.std.specs.Prelude.{◌≡◌, ℕ, ◌⊎◌, List}
+use Rattle.std.specs.Prelude.{◌≡◌, ◌<◌, ℕ, ◌⊎◌, List}
 use Rattle.pivot_definitions.specs.Tableaus.{SimplexTableau, built}
 use Rattle.pivot_definitions.specs.Runs.{EndsBest, EndsWide, EndsOutOfPivots}
 use Rattle.scan_types.specs.declared.offer.Offer.{Offer}
@@ -11,6 +11,7 @@ use Rattle.finding_definitions.specs.declared.finding.WideAt.{WideAt}
 use Rattle.finding_definitions.specs.declared.finding.WideAt.TheVariants.{Entry}
 use Rattle.judging_definitions.specs.Readings.{Reads, ReadsWide, MeasureReads, PartsRead}
 use Rattle.judging_laws.specs.Laws.{limited_stakes}
+use Rattle.bland_laws.specs.Bases.{basis_count}
 use Rattle.best_laws.specs.Laws.{most_program}
 use Rattle.best_stakes.specs.declared.out.BestOut.{BestOut}
 use Rattle.best_stakes.specs.declared.out.BestOut.TheVariants.{Best, Wide, OutOfPivots}
@@ -45,3 +46,9 @@ abbrev pub GainsMostOut : List Offer → BestOut → Type 0
 GainsMostOut offers (Best parts measure) = GainsMost offers parts.divisor parts.parts
 GainsMostOut offers (Wide pivots place) = Unit {0}
 GainsMostOut offers (OutOfPivots pivots) = Unit {0}
+
+-- where the run is out of pivots, it made fewer than its program has bases
+abbrev pub MadeFewPivots : List Offer → BestOut → Type 0
+MadeFewPivots offers (Best parts measure) = Unit {0}
+MadeFewPivots offers (Wide pivots place) = Unit {0}
+MadeFewPivots offers (OutOfPivots pivots) = pivots < basis_count (most_program offers)

@@ -4,7 +4,7 @@ ghost use Rattle.finding_definitions.specs.declared.finding.WideAt.{WideAt};
 ghost use Rattle.coherence_lp.specs.declared.fault.ReadingFault.{ReadingFault};
 ghost use Rattle.judging_laws.specs.Laws.{IsAtBest};
 ghost use Rattle.best_laws.specs.Laws.{most_program};
-ghost use Rattle.best_stakes.specs.BestFound.{GainsMostOut, IsBestOf, IsRightOut, ReadAs, ReadWith};
+ghost use Rattle.best_stakes.specs.BestFound.{GainsMostOut, IsBestOf, IsRightOut, MadeFewPivots, ReadAs, ReadWith};
 
 use crate::out::BestOut;
 use coherence_lp::{Needs, ReadingFault, limited, read_measure, read_parts};
@@ -27,6 +27,8 @@ pub fn best(
     ensures answer { IfOk result (IsBestOf sheet.now budget) }
     ensures right { IfOk result (IsRightOut sheet.now) }
     ensures no_more { IfOk result (GainsMostOut sheet.now) }
+    // Bland's rule meets no basis twice, so a budget of as many pivots as the program has bases is never used up.
+    ensures few_pivots { IfOk result (MadeFewPivots sheet.now) }
 {
     run_for_best(alloc, tableau, budget, sheet)
 }
