@@ -10,11 +10,13 @@ use Rattle.price_duality.proofs.right_findings_are_true.Goals as goal
 
 rules_out : (offers : List Offer) (finding : Finding) → IsRight offers finding → RulesOut offers finding
 rules_out offers (Arb stakes) right = tt
-rules_out offers (Coherent m) right =
-    (record {
-      whole = λ stakes a. no_unit offers m 1 stakes right (arbitrage_wins offers stakes a);
-      fractions = λ divisor parts r. no_unit offers m divisor parts right (reached_wins offers divisor parts r);
-    }, λ divisor parts. no_unit offers m divisor parts right)
+rules_out offers (Coherent m) right = (
+  record {
+    whole = λ stakes a. no_unit offers m 1 stakes right (arbitrage_wins offers stakes a);
+    fractions = λ divisor parts r. no_unit offers m divisor parts right (reached_wins offers divisor parts r);
+  },
+  λ divisor parts. no_unit offers m divisor parts right,
+)
 rules_out offers (Thin found m) right =
     record {
       whole = λ stakes a. thin_rules_out_unit offers m found.divisor 1 found.parts stakes right (arbitrage_reaches offers stakes a);
